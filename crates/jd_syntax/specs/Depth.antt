@@ -1,7 +1,7 @@
--- How deep a script nests: the most constructs that stand round one of its tokens. Each application of an
+-- How deep a block nests: the most constructs that stand round one of its tokens. Each application of an
 -- operator, each pair of parentheses and each call counts; a number, a text or a name doesn't.
 use Rattle.std.specs.Prelude.{ℕ, ◌+◌, max, List, [], ◌∷◌, Option, Some, None}
-use Rattle.jd_syntax.specs.Grammar.{Syntax, leaf, unary, binary, listed, Commas, none, more, Maybe, nothing, just, Line, Script}
+use Rattle.jd_syntax.specs.Grammar.{Syntax, leaf, unary, binary, listed, Commas, none, more, Maybe, nothing, just, Line, Block}
 
 abbrev mutual
   pub height : Syntax → ℕ
@@ -26,8 +26,8 @@ abbrev pub depth_lines : List Line → ℕ
 depth_lines [] = 0
 depth_lines (l ∷ ls) = max (depth_line l.expr) (depth_lines ls)
 
-abbrev pub depth : Script → ℕ
-depth s = max (depth_lines s.lines) (depth_line s.last)
+abbrev pub depth : Block → ℕ
+depth b = max (depth_lines b.lines) (depth_line b.last)
 
 -- how deep a script may nest
 abbrev pub limit : ℕ

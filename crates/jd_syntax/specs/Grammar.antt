@@ -28,9 +28,12 @@ pub record Line : Type 0 where
   pub expr : Option Syntax
   pub ends : Token
 
-pub record Script : Type 0 where
+pub record Block : Type 0 where
   pub lines : List Line
   pub last : Option Syntax
+
+pub record Script : Type 0 where
+  pub block : Block
   -- the texts, and the names without a meaning of their own, to which the tokens refer by number
   pub texts : List (List ℕ)
   pub names : List (List ℕ)
@@ -60,8 +63,8 @@ abbrev pub put_lines : List Line → List Token → List Token
 put_lines [] rest = rest
 put_lines (l ∷ ls) rest = put_line l.expr (l.ends ∷ put_lines ls rest)
 
-abbrev pub put_script : Script → List Token → List Token
-put_script s rest = put_lines s.lines (put_line s.last rest)
+abbrev pub put_block : Block → List Token → List Token
+put_block b rest = put_lines b.lines (put_line b.last rest)
 
 -- ---- the grammar's trees
 
@@ -111,5 +114,5 @@ abbrev pub AreLines : List Line → Type 0
 AreLines [] = Unit {0}
 AreLines (l ∷ ls) = IsLine l.expr × IsTrue (is_separator l.ends.kind) × AreLines ls
 
-abbrev pub IsScript : Script → Type 0
-IsScript s = AreLines s.lines × IsLine s.last
+abbrev pub IsBlock : Block → Type 0
+IsBlock b = AreLines b.lines × IsLine b.last

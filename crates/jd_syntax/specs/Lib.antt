@@ -2,3 +2,4 @@ pub mod Grammar
 pub mod Plain
 pub mod Pure
 pub mod Depth
+pub mod Machine

@@ -7,8 +7,9 @@ use Rattle.jd_syntax.specs.declared.tree.Listing.{Listing, fold-Listing}
 use Rattle.jd_syntax.specs.declared.tree.Expr.TheOpen.{Expr-F, Item-F, Listing-F}
 use Rattle.jd_syntax.specs.declared.tree.Expr.TheOpen as layer
 use Rattle.jd_syntax.specs.declared.tree.Line as code
+use Rattle.jd_syntax.specs.declared.tree.Block as code-block
 use Rattle.jd_syntax.specs.declared.tree.Script as code-script
-use Rattle.jd_syntax.specs.Grammar.{Syntax, leaf, unary, binary, listed, Commas, none, more, Maybe, nothing, just, Line, Script}
+use Rattle.jd_syntax.specs.Grammar.{Syntax, leaf, unary, binary, listed, Commas, none, more, Maybe, nothing, just, Line, Block, Script}
 
 abbrev pub commas : List (Syntax × Token) → Commas
 commas [] = none
@@ -53,5 +54,8 @@ plain_item = fold-Item Syntax (Syntax × Token) Inside plain_at plain_item_at pl
 abbrev pub plain_line : code.Line → Line
 plain_line l = record { expr = option_map plain l.expr; ends = l.ends }
 
+abbrev pub plain_block : code-block.Block → Block
+plain_block b = record { lines = map plain_line b.lines; last = option_map plain b.last }
+
 abbrev pub plain_script : code-script.Script → Script
-plain_script s = record { lines = map plain_line s.lines; last = option_map plain s.last; texts = s.texts; names = s.names }
+plain_script s = record { block = plain_block s.block; texts = s.texts; names = s.names }

@@ -4,7 +4,7 @@ use Rattle.jd_grammar.specs.declared.token.Kind.{Kind}
 use Rattle.jd_grammar.specs.declared.token.Kind.TheVariants.{Number, Wide, Text, Name}
 use Rattle.jd_grammar.specs.declared.token.Name.TheVariants as name
 use Rattle.jd_grammar.specs.declared.token.Word.TheVariants as word
-use Rattle.jd_syntax.specs.Grammar.{Syntax, leaf, unary, binary, listed, Commas, none, more, Maybe, nothing, just, Line, Script}
+use Rattle.jd_syntax.specs.Grammar.{Syntax, leaf, unary, binary, listed, Commas, none, more, Maybe, nothing, just, Line, Block}
 
 abbrev pub is_number : Kind → Bool
 is_number (Number n) = true
@@ -105,5 +105,5 @@ abbrev pub are_pure_lines : List Line → Bool
 are_pure_lines [] = true
 are_pure_lines (l ∷ ls) = is_pure_line l.expr && are_pure_lines ls
 
-abbrev pub is_pure : Script → Bool
-is_pure s = are_pure_lines s.lines && is_pure_line s.last
+abbrev pub is_pure : Block → Bool
+is_pure b = are_pure_lines b.lines && is_pure_line b.last

@@ -50,12 +50,17 @@ pub struct Line {
     pub ends: Token,
 }
 
-/// A script: its lines, and what a token tells by a number alone.
+/// Lines, and what stands behind the last `;` or end of a line.
+#[derive(Drop)]
+pub struct Block {
+    pub lines: Items<Line>,
+    pub last: Option<Expr>,
+}
+
+/// A script: its lines, and what its tokens name by a number alone.
 #[derive(Drop)]
 pub struct Script {
-    pub lines: Items<Line>,
-    /// What stands behind the last `;` or end of a line.
-    pub last: Option<Expr>,
+    pub block: Block,
     /// The texts with their escapes read, in the order of the script: `Kind::Text(n)` is the one at `n`.
     pub texts: Items<Text>,
     /// The names that the language gives no meaning, each once, in the order in which they first
