@@ -1,0 +1,5 @@
+pub mod Grammar
+pub mod Plain
+pub mod Pure
+pub mod Depth
+pub mod Machine

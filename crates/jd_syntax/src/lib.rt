@@ -1,0 +1,4 @@
+//! Reads scripts: from bytes to trees that keep every token.
+#![tactic(auto)]
+
+pub mod tree;
