@@ -38,8 +38,8 @@ impl Budget {
         self.left
     }
 
-    /// Spends a unit.
-    pub(crate) fn spend(&mut self) -> Result<(), Stop>
+    /// Spends a unit. Where none is left that is the fault `Budget`.
+    pub fn spend(&mut self) -> Result<(), Stop>
         ensures { Gives (unit self.old) result self.new }
     {
         if self.left == 0 {
