@@ -1,3 +1,5 @@
 pub mod Sound
 pub mod Complete
 pub mod Nesting
+pub mod Trees
+pub mod Reading

@@ -28,7 +28,7 @@ depth_end : (ls : List Line) (l : Line) → depth_lines (ls ++ (l ∷ [])) ≡ m
 depth_end [] l = omega arith
 depth_end (x ∷ ls) l = omega (arith, depth_end ls l)
 
-height_comma : (es : Commas) (e : Syntax) (t : Token) → height_commas (with_comma es e t) ≡ max (height_commas es) (height e)
+pub height_comma : (es : Commas) (e : Syntax) (t : Token) → height_commas (with_comma es e t) ≡ max (height_commas es) (height e)
 height_comma none e t = omega arith
 height_comma (more x c es) e t = omega (arith, height_comma es e t)
 

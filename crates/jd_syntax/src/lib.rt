@@ -1,4 +1,9 @@
 //! Reads scripts: from bytes to trees that keep every token.
 #![tactic(auto)]
 
+mod block;
+mod build;
+mod machine;
+mod measured;
+mod stack;
 pub mod tree;
