@@ -1,6 +1,8 @@
 -- What the code's trees are as plain trees.
-use Rattle.std.proofs.Common.{ℕ, suc, ◌≡◌, ◌≤◌, ◌<◌, ◌+◌, length, ◌++◌, min, max, List, [], ◌∷◌, map, Option, Some, None, option_map, sym, ap, refl, ◌∙◌, arith}
+use Rattle.std.proofs.Common.{nat_eq, false, ℕ, suc, ◌≡◌, ◌≤◌, ◌<◌, ◌+◌, length, ◌++◌, min, max, List, [], ◌∷◌, map, Option, Some, None, option_map, sym, ap, refl, ◌∙◌, arith}
+use Rattle.std.proofs.lemmas.Bool.Decides.{nat_tests}
 use Rattle.jd_grammar.specs.declared.token.Token.{Token}
+use Rattle.jd_syntax.specs.Pure.{is_none, is_single}
 use Rattle.jd_syntax.specs.declared.tree.Expr.{Expr, fold-roll-Expr}
 use Rattle.jd_syntax.specs.declared.tree.Item.{Item, roll-Item, fold-roll-Item}
 use Rattle.jd_syntax.specs.declared.tree.Expr.TheOpen as layer
@@ -49,3 +51,15 @@ reach_test fs rest top n r e hn hr =
     let l : length fs ≡ suc (length rest) = ap length e in
     let q : reach_of (plain_frames fs) ≡ length (plain_frames rest) + height_in (plain_frame top) 0 = ap (λ x. reach_of (plain_frames x)) e in
     ((λ h. omega arith), (λ h. omega arith))
+
+single_of : (es : List Item) (n : ℕ) → n ≡ length es → nat_eq n 1 ≡ is_single (commas (map plain_item es))
+single_of [] n h = ap (λ x. nat_eq x 1) h
+single_of (e ∷ []) n h = ap (λ x. nat_eq x 1) h
+single_of (e ∷ (d ∷ es)) n h = let k : n ≡ suc (suc (length es)) = h in grind (arith, nat_tests)
+
+pub single_length : (es : List Item) → nat_eq (length es) 1 ≡ is_single (commas (map plain_item es))
+single_length es = single_of es (length es) refl
+
+pub some_items : (es : List Item) → 1 ≤ length es → false ≡ is_none (commas (map plain_item es))
+some_items [] h = absurd (omega arith)
+some_items (e ∷ es) h = refl

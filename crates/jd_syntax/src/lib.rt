@@ -5,5 +5,6 @@ mod block;
 mod build;
 mod machine;
 mod measured;
+mod pure;
 mod stack;
 pub mod tree;
