@@ -3,3 +3,4 @@ pub mod Complete
 pub mod Nesting
 pub mod Trees
 pub mod Reading
+pub mod Interning

@@ -5,3 +5,5 @@ pub mod Depth
 pub mod Machine
 pub mod Written
 pub mod Code
+pub mod Words
+pub mod Lexing

@@ -5,6 +5,8 @@ mod block;
 mod build;
 mod machine;
 mod measured;
+mod names;
 mod pure;
 mod stack;
 pub mod tree;
+pub mod words;

@@ -1,0 +1,8 @@
+-- The lexer's state as a definition's.
+use Rattle.std.specs.Prelude.{ℕ, List, [], ◌∷◌}
+use denote.Ref.{Bor}
+
+-- what the references point to
+abbrev pub texts_of : List (Bor (List ℕ)) → List (List ℕ)
+texts_of [] = []
+texts_of (k ∷ ks) = k.now ∷ texts_of ks
