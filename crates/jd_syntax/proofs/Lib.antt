@@ -4,3 +4,4 @@ pub mod Nesting
 pub mod Trees
 pub mod Reading
 pub mod Interning
+pub mod Numbers

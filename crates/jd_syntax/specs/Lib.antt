@@ -6,4 +6,5 @@ pub mod Machine
 pub mod Written
 pub mod Code
 pub mod Words
+pub mod Lexical
 pub mod Lexing

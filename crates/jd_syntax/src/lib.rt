@@ -3,6 +3,7 @@
 
 mod block;
 mod build;
+mod lexeme;
 mod machine;
 mod measured;
 mod names;
