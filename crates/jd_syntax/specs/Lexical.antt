@@ -157,12 +157,16 @@ text_lexeme x = (lexeme.Text x.0, x.1)
 abbrev pub word_len : List ℕ → ℕ
 word_len bs = prefix_len is_word_byte bs
 
+-- the name of a macro
+abbrev pub macro_at : ℕ → List ℕ → Option (Lexeme × ℕ)
+macro_at a bs = let n = word_len bs in option_map (λ k. (lexeme.Plain k, n)) (word_kind (take (n + 1) (a ∷ bs)))
+
 -- the longest token that begins with the byte a, and how many bytes it has behind that
 unfoldable pub lexeme_at : ℕ → List ℕ → Option (Lexeme × ℕ)
 lexeme_at a bs =
     if is_digit a then Some (plain (number_lexeme (number_at (a - 48) 0 bs)))
     else (if is_letter a then (let n = name_len bs in Some (named (word_kind (take (n + 1) (a ∷ bs))), n))
-    else (if a == 64 then (let n = word_len bs in option_map (λ k. (lexeme.Plain k, n)) (word_kind (take (n + 1) (a ∷ bs))))
+    else (if a == 64 then macro_at a bs
     else (if a == 34 then option_map text_lexeme (text_at [] 0 false bs)
     else option_map plain (sign_at a bs))))
 

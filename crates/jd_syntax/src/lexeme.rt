@@ -1,9 +1,11 @@
 //! What stands at one place of a script.
-ghost use Rattle.std.specs.Prelude.{◌≡◌, ◌+◌, ◌-◌, ◌≤◌, ◌<◌, ◌*◌, ◌&&◌, [], false, drop, min, length, IfOk, IfSome, IsTrue, option_map};
+ghost use Rattle.std.specs.Prelude.{◌≡◌, ◌∷◌, take, slice_index, ◌+◌, ◌-◌, ◌≤◌, ◌<◌, ◌*◌, ◌&&◌, [], false, drop, min, length, IfOk, IfSome, IsTrue, option_map};
 ghost use Rattle.std.specs.List.{prefix_len};
-ghost use Rattle.jd_syntax.specs.Lexical.{is_digit, is_letter, is_word_byte, starts_with, starts_with_digit, name_len, comment_len, escaped, sign, pair_sign, pair_at, sign_at, number_at, number_kind, number_lexeme, wide, text_at, named, lexeme_at};
+ghost use Rattle.jd_syntax.specs.Lexical.{is_digit, is_letter, is_word_byte, starts_with, starts_with_digit, name_len, comment_len, escaped, sign, pair_sign, pair_at, sign_at, number_at, number_kind, number_lexeme, wide, text_at, named, macro_at, lexeme_at};
+ghost use Rattle.jd_syntax.specs.Words.{word_kind};
 
 use crate::tree::Text;
+use crate::words::word_kind;
 use jd_grammar::token::Kind;
 use sqlite_items::Items;
 use std::alloc::{AllocError, Global};
@@ -261,4 +263,73 @@ fn text_at(alloc: Global, bytes: &[u8], start: usize) -> Result<Option<(Text, us
         }
     }
     Ok(None)
+}
+
+/// The bytes from one place to another.
+#[tactic(auto, using(crate::proofs::Numbers::cut))]
+pub fn slice(bytes: &[u8], at: usize, end: usize) -> &[u8]
+    requires some { at < end }
+    requires within { end ≤ length bytes.now }
+    ensures { result.now ≡ take (end - at) (slice_index bytes.now at ∷ drop (at + 1) bytes.now) }
+{
+    &bytes[at..end]
+}
+
+/// The name at a place, and how many bytes it has behind its first.
+fn name_at(bytes: &[u8], at: usize) -> (Lexeme, usize)
+    requires { at < length bytes.now }
+    ensures name { result.0 ≡ named (word_kind (take (result.1 + 1) (slice_index bytes.now at ∷ drop (at + 1) bytes.now))) }
+    ensures len { result.1 ≡ name_len (drop (at + 1) bytes.now) }
+    ensures within { at + 1 + result.1 ≤ length bytes.now }
+{
+    let end = name_end(bytes, at + 1);
+    let lexeme = match word_kind(slice(bytes, at, end)) {
+        None => Lexeme::Name,
+        Some(kind) => Lexeme::Plain(kind),
+    };
+    (lexeme, end - at - 1)
+}
+
+/// The macro name at a place, and how many bytes it has behind its first. None where there is no such macro.
+fn macro_at(bytes: &[u8], at: usize) -> Option<(Lexeme, usize)>
+    requires { at < length bytes.now }
+    ensures name { result ≡ macro_at (slice_index bytes.now at) (drop (at + 1) bytes.now) }
+    ensures within { IfSome result (λ x. at + 1 + x.1 ≤ length bytes.now) }
+{
+    let end = word_end(bytes, at + 1);
+    let kind = word_kind(slice(bytes, at, end))?;
+    Some((Lexeme::Plain(kind), end - at - 1))
+}
+
+/// The longest token at a place, and how many bytes it has behind its first. None where no token begins.
+#[tactic(auto, unfolding(crate::specs::Lexical::lexeme_at))]
+pub fn lexeme_at(
+    alloc: Global,
+    bytes: &[u8],
+    at: usize,
+) -> Result<Option<(Lexeme, usize)>, AllocError>
+    requires { at < length bytes.now }
+    ensures lexeme { IfOk result (λ found. found ≡ lexeme_at (slice_index bytes.now at) (drop (at + 1) bytes.now)) }
+    ensures within { IfOk result (λ found. IfSome found (λ x. at + 1 + x.1 ≤ length bytes.now)) }
+{
+    let first = bytes[at];
+    let next = at + 1;
+    if is_digit(first) {
+        let (kind, len) = number_at(bytes, next, first);
+        return Ok(Some((Lexeme::Plain(kind), len)));
+    }
+    if is_letter(first) {
+        return Ok(Some(name_at(bytes, at)));
+    }
+    match first {
+        b'@' => Ok(macro_at(bytes, at)),
+        b'"' => match text_at(alloc, bytes, next)? {
+            Some((text, len)) => Ok(Some((Lexeme::Text(text), len))),
+            None => Ok(None),
+        },
+        _ => match sign_at(bytes, next, first) {
+            Some((kind, len)) => Ok(Some((Lexeme::Plain(kind), len))),
+            None => Ok(None),
+        },
+    }
 }
