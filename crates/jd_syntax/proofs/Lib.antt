@@ -5,3 +5,4 @@ pub mod Trees
 pub mod Reading
 pub mod Interning
 pub mod Numbers
+pub mod Scan

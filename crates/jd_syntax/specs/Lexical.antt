@@ -235,6 +235,9 @@ abbrev pub is_line_end : Kind → Bool
 is_line_end kind.LineEnd = true
 is_line_end _ = false
 
+abbrev pub with_gap : Lexed → Lexed
+with_gap s = record s { spaced = true }
+
 -- a token of this kind, from one place to another
 abbrev pub with_token : Lexed → Kind → ℕ → ℕ → Lexed
 with_token s k from to = record s {
@@ -249,18 +252,25 @@ with_lexeme s (lexeme.Text t) at bytes =
 with_lexeme s lexeme.Name at bytes =
     with_token (record s { names = with_name s.names bytes }) (kind.Name (name.Other (number_in s.names bytes))) at (at + length bytes)
 
--- What is read from a place on, where the first `skip` bytes belong to what was read before, and the place where no
--- token begins, if there is one.
+-- none of the counts is above n
+pub record IsWithin (s : Lexed) (n : ℕ) : Type 0 where
+  pub texts : length s.texts ≤ n
+  pub names : length s.names ≤ n
+  pub nest : s.nest ≤ n
+
+-- What is read at a place whose bytes are these: a blank or a comment, else a token, else nothing, and then the place
+-- is told. The rest goes on behind so many bytes more.
+abbrev pub next : ℕ → Lexed → List ℕ → Option ℕ → Option (Lexeme × ℕ) → (ℕ → Lexed → Lexed × Option ℕ) → Lexed × Option ℕ
+next at s bytes (Some n) x go = go n (with_gap s)
+next at s bytes None (Some x) go = go x.1 (with_lexeme s x.0 at (take (x.1 + 1) bytes))
+next at s bytes None None go = (s, Some at)
+
+-- What is read from a place on, of which the first `skip` bytes belong to what was read before.
 abbrev pub scan : ℕ → ℕ → Lexed → List ℕ → Lexed × Option ℕ
 scan at skip s [] = (s, None)
 scan at (suc skip) s (b ∷ bs) = scan (at + 1) skip s bs
-scan at zero s (b ∷ bs) =
-    next (gap_at (nat_lt 0 s.nest || s.joined) b bs) (lexeme_at b bs) (λ n t. scan (at + 1) n t bs)
-  where
-  next : Option ℕ → Option (Lexeme × ℕ) → (ℕ → Lexed → Lexed × Option ℕ) → Lexed × Option ℕ
-  next (Some n) x go = go n (record s { spaced = true })
-  next None None go = (s, Some at)
-  next None (Some x) go = go x.1 (with_lexeme s x.0 at (take (x.1 + 1) (b ∷ bs)))
+scan at zero s (b ∷ bs) = next at s (b ∷ bs) (gap_at (nat_lt 0 s.nest || s.joined) b bs) (lexeme_at b bs) (λ n t. scan (at + 1) n t bs)
 
+-- what is read of a whole script, and the place where no token begins, if there is one
 abbrev pub lexed : List ℕ → Lexed × Option ℕ
 lexed bytes = scan 0 0 start bytes

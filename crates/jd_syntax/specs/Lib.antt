@@ -7,4 +7,5 @@ pub mod Written
 pub mod Code
 pub mod Words
 pub mod Lexical
+pub mod Names
 pub mod Lexing

@@ -39,7 +39,7 @@ fn is_word_byte(byte: u8) -> bool
     is_letter(byte) || is_digit(byte)
 }
 
-fn starts_with(bytes: &[u8], at: usize, byte: u8) -> bool
+pub fn starts_with(bytes: &[u8], at: usize, byte: u8) -> bool
     ensures { result ≡ starts_with byte (drop at bytes.now) }
 {
     at < bytes.len() && bytes[at] == byte

@@ -4,6 +4,7 @@
 mod block;
 mod build;
 mod lexeme;
+mod lexer;
 mod machine;
 mod measured;
 mod names;
