@@ -20,10 +20,13 @@ cap_at : (v w n : ℕ) (bs : List ℕ) → min v wide ≡ min w wide → capped 
 cap_at v w n [] h = ap (λ x. (x, n)) h
 cap_at v w n (b ∷ bs) h =
     elim (is_digit b) as (λ d. capped (if d then number_at (10 * v + (b - 48)) (n + 1) bs else (if b == 95 && starts_with_digit bs then number_at v (n + 1) bs else (v, n)))
-        ≡ capped (if d then number_at (10 * w + (b - 48)) (n + 1) bs else (if b == 95 && starts_with_digit bs then number_at w (n + 1) bs else (w, n)))) [
-      true ↦ cap_at (10 * v + (b - 48)) (10 * w + (b - 48)) (n + 1) bs (omega arith)
-    | false ↦ elim (b == 95 && starts_with_digit bs) as (λ d. capped (if d then number_at v (n + 1) bs else (v, n)) ≡ capped (if d then number_at w (n + 1) bs else (w, n))) [
-        true ↦ cap_at v w (n + 1) bs h | false ↦ ap (λ x. (x, n)) h ] ]
+    ≡ capped (if d then number_at (10 * w + (b - 48)) (n + 1) bs else (if b == 95 && starts_with_digit bs then number_at w (n + 1) bs else (w, n)))) [
+      | true ↦ cap_at (10 * v + (b - 48)) (10 * w + (b - 48)) (n + 1) bs (omega arith)
+      | false ↦ elim (b == 95 && starts_with_digit bs) as (λ d. capped (if d then number_at v (n + 1) bs else (v, n)) ≡ capped (if d then number_at w (n + 1) bs else (w, n))) [
+        | true ↦ cap_at v w (n + 1) bs h
+        | false ↦ ap (λ x. (x, n)) h
+      ]
+    ]
 
 pub kind_same : (v w : ℕ) → min v wide ≡ min w wide → number_kind v ≡ number_kind w
 kind_same v w h = grind (arith, nat_tests)

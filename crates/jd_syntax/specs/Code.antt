@@ -2,14 +2,15 @@
 use Rattle.std.specs.Prelude.{ℕ, ◌≡◌, List, [], ◌∷◌, Option, Some, None, map, option_map, Result, Ok, Err}
 use Rattle.jd_syntax.specs.declared.tree.Line as code-line
 use Rattle.jd_syntax.specs.declared.tree.Block as code-block
+use Rattle.jd_syntax.specs.declared.tree.Script as code-script
 use Rattle.jd_syntax.specs.declared.measured.Measured.{Measured}
 use Rattle.jd_syntax.specs.declared.measured.Arguments.{Arguments}
 use Rattle.jd_syntax.specs.declared.machine.Frame.{Frame}
 use Rattle.jd_syntax.specs.declared.machine.Frame.TheVariants as frame
 use Rattle.jd_syntax.specs.declared.machine.Stop.{Stop}
 use Rattle.jd_syntax.specs.declared.machine.Stop.TheVariants.{Refused, OutOfMemory}
-use Rattle.jd_syntax.specs.Plain.{plain, plain_item, plain_line, plain_block, commas, maybe}
-use Rattle.jd_syntax.specs.Grammar.{Syntax, Commas, Block}
+use Rattle.jd_syntax.specs.Plain.{plain, plain_item, plain_line, plain_block, plain_script, commas, maybe}
+use Rattle.jd_syntax.specs.Grammar.{Syntax, Commas, Block, Script}
 use Rattle.jd_syntax.specs.Machine as machine
 use Rattle.jd_syntax.specs.Machine.{Config, close}
 
@@ -54,3 +55,8 @@ abbrev pub ReadsBlock : Result code-block.Block Stop → Block → Type 0
 ReadsBlock (Ok b) c = plain_block b ≡ c
 ReadsBlock (Err OutOfMemory) c = Unit {0}
 ReadsBlock (Err Refused) c = ⊥
+
+abbrev pub ReadsScript : Result code-script.Script Stop → Script → Type 0
+ReadsScript (Ok s) t = plain_script s ≡ t
+ReadsScript (Err OutOfMemory) t = Unit {0}
+ReadsScript (Err Refused) t = ⊥

@@ -54,7 +54,6 @@ name_len bs = let n = prefix_len is_word_byte bs in
 abbrev pub comment_len : List ℕ → ℕ
 comment_len bs = prefix_len (λ b. not (b == 10)) bs
 
-
 -- what an escape stands for: `\n`, `\t`, `\\`, `\"` and `\$`
 abbrev pub escaped : ℕ → Option ℕ
 escaped b =
@@ -68,9 +67,9 @@ abbrev pub text_at : List ℕ → ℕ → Bool → List ℕ → Option (List ℕ
 text_at t n esc [] = None
 text_at t n true (b ∷ bs) = text_on (escaped b) t (λ u. text_at u (n + 1) false bs)
   where
-  text_on : Option ℕ → List ℕ → (List ℕ → Option (List ℕ × ℕ)) → Option (List ℕ × ℕ)
-  text_on None t go = None
-  text_on (Some c) t go = go (t ++ c ∷ [])
+    text_on : Option ℕ → List ℕ → (List ℕ → Option (List ℕ × ℕ)) → Option (List ℕ × ℕ)
+    text_on None t go = None
+    text_on (Some c) t go = go (t ++ c ∷ [])
 text_at t n false (b ∷ bs) =
     if b == 34 then Some (t, n + 1)
     else (if b == 92 then text_at t (n + 1) true bs
@@ -87,17 +86,17 @@ pair_sign a b =
     else (if a == 195 && b == 183 then Some kind.Divide
     else None))))
   where
-  -- `+=`, `-=`, `*=`, `==`, `!=`, `<=`, `>=`
-  sign_with_equals : ℕ → Option Kind
-  sign_with_equals a =
-      if a == 43 then Some kind.PlusAssign
-      else (if a == 45 then Some kind.MinusAssign
-      else (if a == 42 then Some kind.StarAssign
-      else (if a == 61 then Some kind.Equal
-      else (if a == 33 then Some kind.Unequal
-      else (if a == 60 then Some kind.LessEqual
-      else (if a == 62 then Some kind.GreaterEqual
-      else None))))))
+    -- `+=`, `-=`, `*=`, `==`, `!=`, `<=`, `>=`
+    sign_with_equals : ℕ → Option Kind
+    sign_with_equals a =
+        if a == 43 then Some kind.PlusAssign
+        else (if a == 45 then Some kind.MinusAssign
+        else (if a == 42 then Some kind.StarAssign
+        else (if a == 61 then Some kind.Equal
+        else (if a == 33 then Some kind.Unequal
+        else (if a == 60 then Some kind.LessEqual
+        else (if a == 62 then Some kind.GreaterEqual
+        else None))))))
 
 -- signs of one byte
 unfoldable pub sign : ℕ → Option Kind
@@ -136,9 +135,9 @@ sign_at a bs =
     if a == 226 then (if starts_with 138 bs && starts_with 187 (drop 1 bs) then Some (kind.Xor, 2) else None)
     else longer (pair_at a bs) (sign a)
   where
-  longer : Option Kind → Option Kind → Option (Kind × ℕ)
-  longer (Some k) s = Some (k, 1)
-  longer None s = option_map (λ k. (k, 0)) s
+    longer : Option Kind → Option Kind → Option (Kind × ℕ)
+    longer (Some k) s = Some (k, 1)
+    longer None s = option_map (λ k. (k, 0)) s
 
 abbrev pub plain : Kind × ℕ → Lexeme × ℕ
 plain x = (lexeme.Plain x.0, x.1)
@@ -241,8 +240,11 @@ with_gap s = record s { spaced = true }
 -- a token of this kind, from one place to another
 abbrev pub with_token : Lexed → Kind → ℕ → ℕ → Lexed
 with_token s k from to = record s {
-    tokens = s.tokens ++ record { kind = k; start = from; end = to; spaced = s.spaced } ∷ [];
-    nest = opened k s.nest; joined = joins k; spaced = is_line_end k }
+  tokens = s.tokens ++ record { kind = k; start = from; end = to; spaced = s.spaced } ∷ [];
+  nest = opened k s.nest;
+  joined = joins k;
+  spaced = is_line_end k;
+}
 
 -- the token of these bytes, at a place
 abbrev pub with_lexeme : Lexed → Lexeme → ℕ → List ℕ → Lexed

@@ -9,3 +9,5 @@ pub mod Words
 pub mod Lexical
 pub mod Names
 pub mod Lexing
+pub mod Spelling
+pub mod Answers

@@ -87,12 +87,7 @@ fn expr_of(operand: Option<Measured>) -> Option<Expr>
     }
 }
 
-fn between(
-    opens: Token,
-    most: Arguments,
-    last: Option<Measured>,
-    closes: Token,
-) -> Listing
+fn between(opens: Token, most: Arguments, last: Option<Measured>, closes: Token) -> Listing
     ensures { plain_listing result ≡ record { opens = opens; most = plain_arguments most; last = maybe (option_map plain_measured last); closes = closes } }
 {
     Listing {
@@ -115,7 +110,10 @@ pub fn listing_of(
 ) -> Result<Measured, AllocError>
     ensures { IfOk result (λ m. plain_measured m ≡ listed (maybe (option_map plain_measured head)) opens (plain_arguments most) (maybe (option_map plain_measured last)) closes) }
 {
-    let nesting = nesting_of(&head).max(most.nesting).max(nesting_of(&last)).saturating_add(1);
+    let nesting = nesting_of(&head)
+        .max(most.nesting)
+        .max(nesting_of(&last))
+        .saturating_add(1);
     let listing = Boxed::new(alloc, between(opens, most, last, closes))?;
     let expr = match head {
         None => Expr::Group(listing),

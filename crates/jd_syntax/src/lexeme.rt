@@ -200,7 +200,10 @@ fn with_digit(value: u64, byte: u8) -> u64
     requires { IsTrue (is_digit byte) }
     ensures { result ≡ min (10 * value + (byte - 48)) wide }
 {
-    value.saturating_mul(10).saturating_add(u64::from(byte - b'0')).min(WIDE)
+    value
+        .saturating_mul(10)
+        .saturating_add(u64::from(byte - b'0'))
+        .min(WIDE)
 }
 
 fn number_kind(value: u64) -> Kind

@@ -160,10 +160,7 @@ impl<'a> Lexer<'a> {
 }
 
 /// What is read of a script, and the place where no token begins, if there is one.
-pub fn lex<'a>(
-    alloc: Global,
-    bytes: &'a [u8],
-) -> Result<(Lexer<'a>, Option<usize>), AllocError>
+pub fn lex<'a>(alloc: Global, bytes: &'a [u8]) -> Result<(Lexer<'a>, Option<usize>), AllocError>
     requires { length bytes.now < 2 ^ 32 }
     ensures { IfOk result (λ read. (lexed_of read.0, read.1) ≡ lexed bytes.now) }
 {

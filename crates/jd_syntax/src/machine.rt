@@ -113,8 +113,9 @@ fn closing_empty(
     ensures { Steps (close_empty (map plain_line lines.now) token (plain_frames frames.old)) lines.now frames.new result }
 {
     match frames.pop() {
-        Some(Frame::Listed(head, opens, most)) =>
-            Ok(Some(listing_of(alloc, head, opens, most, None, token)?)),
+        Some(Frame::Listed(head, opens, most)) => Ok(Some(listing_of(
+            alloc, head, opens, most, None, token,
+        )?)),
         _ => Err(Stop::Refused),
     }
 }
@@ -149,8 +150,9 @@ fn want(
     ensures { Steps (want_step token.kind token (map plain_line lines.old) (plain_frames frames.old)) lines.new frames.new result }
 {
     match token.kind {
-        Kind::Number(_) | Kind::Wide(true) | Kind::Text(_) | Kind::Name(_) =>
-            Ok(Some(leaf_of(token))),
+        Kind::Number(_) | Kind::Wide(true) | Kind::Text(_) | Kind::Name(_) => Ok(Some(leaf_of(
+            token,
+        ))),
         Kind::Minus => {
             frames.push(Frame::Unary(token))?;
             Ok(None)
@@ -213,18 +215,20 @@ fn closing(
 {
     let operand = close_all(alloc, frames, 0, operand)?;
     match frames.pop() {
-        Some(Frame::Listed(head, opens, most)) =>
-            Ok(Some(listing_of(alloc, head, opens, most, Some(operand), token)?)),
+        Some(Frame::Listed(head, opens, most)) => Ok(Some(listing_of(
+            alloc,
+            head,
+            opens,
+            most,
+            Some(operand),
+            token,
+        )?)),
         _ => Err(Stop::Refused),
     }
 }
 
 /// The expression of a line that ends behind an operand: none where a construct is still open.
-fn line_end(
-    alloc: Global,
-    frames: &mut Stack<Frame>,
-    operand: Measured,
-) -> Result<Measured, Stop>
+fn line_end(alloc: Global, frames: &mut Stack<Frame>, operand: Measured) -> Result<Measured, Stop>
     ensures { EndsLine (line_of (close 0 (plain_frames frames.old) (plain_measured operand))) frames.new result }
 {
     let operand = close_all(alloc, frames, 0, operand)?;
@@ -263,8 +267,9 @@ fn have(
     ensures { Steps (have_step token.kind token (map plain_line lines.old) (plain_frames frames.old) (plain_measured operand)) lines.new frames.new result }
 {
     match token.kind {
-        Kind::Plus | Kind::Minus | Kind::Star | Kind::Divide | Kind::Percent =>
-            operator(alloc, lines, frames, operand, token),
+        Kind::Plus | Kind::Minus | Kind::Star | Kind::Divide | Kind::Percent => operator(
+            alloc, lines, frames, operand, token,
+        ),
         Kind::OpenParen => {
             frames.push(Frame::Listed(Some(operand), token, no_arguments(alloc)))?;
             Ok(None)

@@ -43,8 +43,10 @@ fn is_bound_leaf(expr: &Expr) -> bool
     ensures { result ≡ is_leaf_of is_bound (plain expr.now) }
 {
     match expr {
-        Expr::Leaf(token) =>
-            matches!(token.kind, Kind::Name(Name::Word(Word::Typemax | Word::Typemin))),
+        Expr::Leaf(token) => matches!(
+            token.kind,
+            Kind::Name(Name::Word(Word::Typemax | Word::Typemin))
+        ),
         _ => false,
     }
 }
@@ -53,8 +55,10 @@ fn is_division_leaf(expr: &Expr) -> bool
     ensures { result ≡ is_leaf_of is_division (plain expr.now) }
 {
     match expr {
-        Expr::Leaf(token) =>
-            matches!(token.kind, Kind::Name(Name::Word(Word::Div | Word::Rem | Word::Mod))),
+        Expr::Leaf(token) => matches!(
+            token.kind,
+            Kind::Name(Name::Word(Word::Div | Word::Rem | Word::Mod))
+        ),
         _ => false,
     }
 }
@@ -208,8 +212,7 @@ fn is_print(expr: &Expr) -> bool
     ensures { result ≡ is_print (plain expr.now) }
 {
     match expr {
-        Expr::Call(callee, listing) =>
-            is_println_leaf(callee.get()) && are_printed(listing.get()),
+        Expr::Call(callee, listing) => is_println_leaf(callee.get()) && are_printed(listing.get()),
         _ => false,
     }
 }

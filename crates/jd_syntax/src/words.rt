@@ -34,7 +34,10 @@ pub static WORDS: [(&str, Kind); 63] = [
     // Other words of the grammar.
     ("Any", Kind::Name(Name::Word(Word::Any))),
     ("Distributed", Kind::Name(Name::Word(Word::Distributed))),
-    ("DistributedArrays", Kind::Name(Name::Word(Word::DistributedArrays))),
+    (
+        "DistributedArrays",
+        Kind::Name(Name::Word(Word::DistributedArrays)),
+    ),
     ("finalize", Kind::Name(Name::Word(Word::Finalize))),
     ("max", Kind::Name(Name::Word(Word::Max))),
     ("min", Kind::Name(Name::Word(Word::Min))),

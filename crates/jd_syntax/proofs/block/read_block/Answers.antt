@@ -12,9 +12,10 @@ returns-then-is_too_deep-clause-only c = too_deep c.args.tokens.now c.loop-token
 
 pub loop-token-preserved : goal.loop-token-preserved
 loop-token-preserved c = record {
-    left = run_next c.args.tokens.now c.loop-token.token-index _ (config c.loop-token.lines c.loop-token.frames c.loop-token.operand) (_) _ c.loop-token-test.true c.in-Ok.ensures c.loop-token.invariant.left;
-    shallow = next_within c.args.tokens.now c.loop-token.token-index _ (config c.loop-token.lines c.loop-token.frames c.loop-token.operand) (config c.next.new.lines c.next.new.frames c.in-Ok.read)
-      c.in-Ok.ensures c.loop-token.invariant.shallow (λ h. let k = c.is_too_deep.ensures.1 h in cc) }
+  left = run_next c.args.tokens.now c.loop-token.token-index _ (config c.loop-token.lines c.loop-token.frames c.loop-token.operand) (_) _ c.loop-token-test.true c.in-Ok.ensures c.loop-token.invariant.left;
+  shallow = next_within c.args.tokens.now c.loop-token.token-index _ (config c.loop-token.lines c.loop-token.frames c.loop-token.operand) (config c.next.new.lines c.next.new.frames c.in-Ok.read)
+      c.in-Ok.ensures c.loop-token.invariant.shallow (λ h. let k = c.is_too_deep.ensures.1 h in cc);
+}
 
 pub returns-clause-found : goal.returns-clause-found
 returns-clause-found c = end_found c.args.tokens.now c.loop-token.token-index (config c.loop-token.lines c.loop-token.frames c.loop-token.operand) c.end.result c.loop-token-test.false c.loop-token.invariant.left c.loop-token.invariant.shallow c.end.ensures

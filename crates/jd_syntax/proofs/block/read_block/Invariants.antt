@@ -7,5 +7,6 @@ use Rattle.jd_syntax.proofs.block.read_block.Given as goal
 -- what is left to read gives what all tokens give
 abbrev pub invariant-loop-token : goal.invariant-loop-token
 invariant-loop-token l = record {
-    left : run (drop l.token-index l.tokens) (config l.lines l.frames l.operand) ≡ run l.tokens start;
-    shallow : needs (config l.lines l.frames l.operand) ≤ limit }
+  left : run (drop l.token-index l.tokens) (config l.lines l.frames l.operand) ≡ run l.tokens start;
+  shallow : needs (config l.lines l.frames l.operand) ≤ limit;
+}

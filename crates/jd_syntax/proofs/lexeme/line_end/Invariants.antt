@@ -4,8 +4,9 @@ use Rattle.jd_syntax.proofs.lexeme.line_end.Given as goal
 
 abbrev pub invariant-loop-at : goal.invariant-loop-at
 invariant-loop-at l = record {
-    within : l.at ≤ length l.bytes;
-    told : l.at + comment_len (drop l.at l.bytes) ≡ l.start + comment_len (drop l.start l.bytes) }
+  within : l.at ≤ length l.bytes;
+  told : l.at + comment_len (drop l.at l.bytes) ≡ l.start + comment_len (drop l.start l.bytes);
+}
 
 abbrev pub decreases-loop-at : goal.decreases-loop-at
 decreases-loop-at l = length l.bytes - l.at
