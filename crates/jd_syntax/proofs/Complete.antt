@@ -32,14 +32,23 @@ stays s (in_listed h o es ∷ fs) e h1 h2 d = refl
 
 leaf_runs : (t : Token) (ls : List Line) (fs : List Frame) (rest : List Token) → IsTrue (is_leaf t.kind) → run (t ∷ rest) (want ls fs) ≡ run rest (have ls fs (leaf t))
 leaf_runs t ls fs rest = elim t.kind as (λ k. IsTrue (is_leaf k) → and_then (want_step k t ls fs) (run rest) ≡ run rest (have ls fs (leaf t))) [
-    Number n ↦ λ h. refl
+  | Number n ↦ λ h. refl
   | Wide least ↦ λ h. ap (λ b. and_then (if b then Some (have ls fs (leaf t)) else None) (run rest)) h
-  | Text n ↦ λ h. refl | Name n ↦ λ h. refl | _ ↦ λ h. cc ]
+  | Text n ↦ λ h. refl
+  | Name n ↦ λ h. refl
+  | _ ↦ λ h. cc
+]
 
 binary_runs : (t : Token) (ls : List Line) (fs : List Frame) (e : Syntax) (rest : List Token) → 1 ≤ strength t.kind
     → run (t ∷ rest) (have ls fs e) ≡ run rest (at_binary ls t (close (strength t.kind) fs e))
 binary_runs t ls fs e rest = elim t.kind as (λ k. 1 ≤ strength k → and_then (have_step k t ls fs e) (run rest) ≡ run rest (at_binary ls t (close (strength k) fs e))) [
-    Plus ↦ λ h. refl | Minus ↦ λ h. refl | Star ↦ λ h. refl | Divide ↦ λ h. refl | Percent ↦ λ h. refl | _ ↦ λ h. absurd (omega arith) ]
+  | Plus ↦ λ h. refl
+  | Minus ↦ λ h. refl
+  | Star ↦ λ h. refl
+  | Divide ↦ λ h. refl
+  | Percent ↦ λ h. refl
+  | _ ↦ λ h. absurd (omega arith)
+]
 
 -- a step at a token whose kind is known
 at_want : (k : Kind) (t : Token) (ls : List Line) (fs : List Frame) (rest : List Token) → t.kind ≡ k → run (t ∷ rest) (want ls fs) ≡ and_then (want_step k t ls fs) (run rest)
@@ -75,19 +84,24 @@ mutual
       let a = reach (strength t.kind) l w.2 ls fs d2 (t ∷ put e rest) in
       let r = reach (strength t.kind + 1) e w.3 ls (in_binary l t ∷ fs) (omega arith) rest in
       record {
-        frames = r.frames; operand = r.operand;
+        frames = r.frames;
+        operand = r.operand;
         runs = a.runs ∙ binary_runs t ls a.frames a.operand (put e rest) w.1
             ∙ ap (λ x. run (put e rest) (at_binary ls t x)) (a.closes (strength t.kind) (omega arith) s2 ∙ stays (strength t.kind) fs l w.1 s2 d2)
             ∙ r.runs;
         closes = λ p h g. r.closes p (omega (arith, w.0)) g
             ∙ ap (λ b. if b then close p fs (binary l t e) else (in_binary l t ∷ fs, e)) (test_le p (strength t.kind) (omega (arith, w.0)));
-        exact = λ h. absurd (omega (arith, w.0)) }
+        exact = λ h. absurd (omega (arith, w.0));
+      }
   reach n (listed head o es last c) w ls fs d rest = record {
-      frames = fs; operand = listed head o es last c;
-      runs = reach_head head o w.0 w.1 ls fs (put_commas es (put_maybe last (c ∷ rest)))
-          ∙ reach_commas es w.2 ls fs head o none (put_maybe last (c ∷ rest))
-          ∙ reach_last last w.3 ls fs head o es c w.4 rest;
-      closes = λ p h g. refl; exact = λ h. refl }
+    frames = fs;
+    operand = listed head o es last c;
+    runs = reach_head head o w.0 w.1 ls fs (put_commas es (put_maybe last (c ∷ rest)))
+        ∙ reach_commas es w.2 ls fs head o none (put_maybe last (c ∷ rest))
+        ∙ reach_last last w.3 ls fs head o es c w.4 rest;
+    closes = λ p h g. refl;
+    exact = λ h. refl;
+  }
 
   reach_head : (h : Maybe) (o : Token) → IsAtMaybe 4 h → o.kind ≡ OpenParen → (ls : List Line) (fs : List Frame) (rest : List Token)
       → run (put_maybe h (o ∷ rest)) (want ls fs) ≡ run rest (want ls (in_listed h o none ∷ fs))
@@ -125,11 +139,17 @@ pub record IsRead (ls : List Line) (e : Option Syntax) (rest : List Token) : Typ
 
 empty_ends : (ls : List Line) (t : Token) → IsTrue (is_separator t.kind) → want_step t.kind t ls [] ≡ Some (ended ls None t)
 empty_ends ls t = elim t.kind as (λ k. IsTrue (is_separator k) → want_step k t ls [] ≡ Some (ended ls None t)) [
-    Semicolon ↦ λ h. refl | LineEnd ↦ λ h. refl | _ ↦ λ h. cc ]
+  | Semicolon ↦ λ h. refl
+  | LineEnd ↦ λ h. refl
+  | _ ↦ λ h. cc
+]
 
 line_ends : (ls : List Line) (fs : List Frame) (d e : Syntax) (t : Token) → line_of (close 0 fs d) ≡ Some e → IsTrue (is_separator t.kind) → have_step t.kind t ls fs d ≡ Some (ended ls (Some e) t)
 line_ends ls fs d e t h = elim t.kind as (λ k. IsTrue (is_separator k) → have_step k t ls fs d ≡ Some (ended ls (Some e) t)) [
-    Semicolon ↦ λ k. ap (at_end ls t) h | LineEnd ↦ λ k. ap (at_end ls t) h | _ ↦ λ k. cc ]
+  | Semicolon ↦ λ k. ap (at_end ls t) h
+  | LineEnd ↦ λ k. ap (at_end ls t) h
+  | _ ↦ λ k. cc
+]
 
 read : (ls : List Line) (e : Option Syntax) → IsLine e → (rest : List Token) → IsRead ls e rest
 read ls None w rest = record { config = want ls []; runs = refl; ends = λ t k. empty_ends ls t k; last = refl }

@@ -21,14 +21,14 @@ close_height p [] e = refl
 close_height p (in_unary t ∷ fs) e = close_height p fs (unary t e)
 close_height p (in_binary l t ∷ fs) e =
     elim (nat_le p (strength t.kind)) as (λ b. let r = if b then close p fs (binary l t e) else (in_binary l t ∷ fs, e) in height_round r.0 (height r.1) ≡ height_round fs (1 + max (height l) (height e)))
-      [ true ↦ close_height p fs (binary l t e) | false ↦ refl ]
+    [ true ↦ close_height p fs (binary l t e) | false ↦ refl ]
 close_height p (in_listed h o es ∷ fs) e = refl
 
 depth_end : (ls : List Line) (l : Line) → depth_lines (ls ++ (l ∷ [])) ≡ max (depth_lines ls) (depth_line l.expr)
 depth_end [] l = omega arith
 depth_end (x ∷ ls) l = omega (arith, depth_end ls l)
 
-height_comma : (es : Commas) (e : Syntax) (t : Token) → height_commas (with_comma es e t) ≡ max (height_commas es) (height e)
+pub height_comma : (es : Commas) (e : Syntax) (t : Token) → height_commas (with_comma es e t) ≡ max (height_commas es) (height e)
 height_comma none e t = omega arith
 height_comma (more x c es) e t = omega (arith, height_comma es e t)
 
@@ -42,10 +42,10 @@ reach_le : (fs : List Frame) (h : ℕ) → reach_of fs ≤ height_round fs h
 reach_le [] h = omega arith
 reach_le (f ∷ fs) h = let a = height_split fs (height_in f h) in let b = grows f in omega arith
   where
-  grows : (f : Frame) → height_in f 0 ≤ height_in f h
-  grows (in_unary t) = omega arith
-  grows (in_binary l t) = omega arith
-  grows (in_listed f o es) = omega arith
+    grows : (f : Frame) → height_in f 0 ≤ height_in f h
+    grows (in_unary t) = omega arith
+    grows (in_binary l t) = omega arith
+    grows (in_listed f o es) = omega arith
 
 close_empty_needs : (t : Token) (ls : List Line) (fs : List Frame) → Needs (needs (want ls fs)) (close_empty ls t fs)
 close_empty_needs t ls [] = tt
@@ -123,8 +123,9 @@ have_needs _ t ls fs e = tt
 
 pub step_needs : (t : Token) (c : Config) → Needs (needs c) (step t c)
 step_needs t c = elim c.operand as (λ o. Needs (needs (record { lines = c.lines; frames = c.frames; operand = o })) (step_at t c.lines c.frames o)) [
-    None ↦ want_needs t.kind t c.lines c.frames
-  | Some e ↦ have_needs t.kind t c.lines c.frames e ]
+  | None ↦ want_needs t.kind t c.lines c.frames
+  | Some e ↦ have_needs t.kind t c.lines c.frames e
+]
 
 -- ---- it never falls
 
@@ -136,9 +137,9 @@ run_needs_on : (ts : List Token) (n : ℕ) → ((c : Config) → NoLess (needs c
 run_needs_on ts n go None h = tt
 run_needs_on ts n go (Some d) h = up (run ts d) (go d)
   where
-  up : (r : Option Config) → NoLess (needs d) r → NoLess n r
-  up None u = tt
-  up (Some r) u = omega arith
+    up : (r : Option Config) → NoLess (needs d) r → NoLess n r
+    up None u = tt
+    up (Some r) u = omega arith
 
 pub run_needs : (ts : List Token) (c : Config) → NoLess (needs c) (run ts c)
 run_needs [] c = omega arith

@@ -73,7 +73,7 @@ close_put p [] e rest = refl
 close_put p (in_unary t ∷ fs) e rest = close_put p fs (unary t e) rest
 close_put p (in_binary l t ∷ fs) e rest =
     elim (nat_le p (strength t.kind)) as (λ b. let r = if b then close p fs (binary l t e) else (in_binary l t ∷ fs, e) in put_frames r.0 (put r.1 rest) ≡ put_frames fs (put l (t ∷ put e rest)))
-      [ true ↦ close_put p fs (binary l t e) rest | false ↦ refl ]
+    [ true ↦ close_put p fs (binary l t e) rest | false ↦ refl ]
 close_put p (in_listed h o es ∷ fs) e rest = refl
 
 pub record IsClosed (p : ℕ) (r : List Frame × Syntax) : Type 0 where
@@ -91,9 +91,10 @@ pub close_ok : (p m : ℕ) (fs : List Frame) (e : Syntax) → p ≤ 2 → p ≤ 
 close_ok p m [] e p2 pm w d fw = record { frames = fw; operand = weaken m p e pm w; fits = omega arith }
 close_ok p m (in_unary t ∷ fs) e p2 pm w d fw = close_ok p 3 fs (unary t e) p2 (omega arith) (omega arith, fw.0, weaken m 3 e d w) fw.1 fw.2
 close_ok p m (in_binary l t ∷ fs) e p2 pm w d fw =
-    elim (nat_le p (strength t.kind)) as (λ b. nat_le p (strength t.kind) ≡ b → IsClosed p (if b then close p fs (binary l t e) else (in_binary l t ∷ fs, e)))
-      [ true ↦ λ h. close_ok p (strength t.kind) fs (binary l t e) p2 (le_of p _ h) (omega arith, fw.0, fw.1, weaken m (strength t.kind + 1) e d w) fw.2 fw.3
-      | false ↦ λ h. record { frames = fw; operand = weaken m p e pm w; fits = omega (arith, lt_of p (strength t.kind) h) } ] refl
+    elim (nat_le p (strength t.kind)) as (λ b. nat_le p (strength t.kind) ≡ b → IsClosed p (if b then close p fs (binary l t e) else (in_binary l t ∷ fs, e))) [
+      | true ↦ λ h. close_ok p (strength t.kind) fs (binary l t e) p2 (le_of p _ h) (omega arith, fw.0, fw.1, weaken m (strength t.kind + 1) e d w) fw.2 fw.3
+      | false ↦ λ h. record { frames = fw; operand = weaken m p e pm w; fits = omega (arith, lt_of p (strength t.kind) h) }
+    ] refl
 close_ok p m (in_listed h o es ∷ fs) e p2 pm w d fw = record { frames = fw; operand = weaken m p e pm w; fits = omega arith }
 
 -- ---- one step
@@ -133,8 +134,9 @@ wide_step t ls fs false w k = tt
 ended_step : (t : Token) (ls : List Line) (c : Config) (e : Option Syntax) → IsTrue (is_separator t.kind) → AreLines ls → IsLine e
     → ((rest : List Token) → put_lines ls (put_line e rest) ≡ put_config c rest) → IsStep t c (ended ls e t)
 ended_step t ls c e k w v h = record {
-    config = record { lines = are_lines_end ls (record { expr = e; ends = t }) w v k; frames = tt; operand = tt };
-    tokens = λ rest. put_lines_end ls (record { expr = e; ends = t }) rest ∙ h (t ∷ rest) }
+  config = record { lines = are_lines_end ls (record { expr = e; ends = t }) w v k; frames = tt; operand = tt };
+  tokens = λ rest. put_lines_end ls (record { expr = e; ends = t }) rest ∙ h (t ∷ rest);
+}
 
 close_empty_step : (t : Token) (ls : List Line) (fs : List Frame) → IsConfig (want ls fs) → t.kind ≡ CloseParen → MayStep t (want ls fs) (close_empty ls t fs)
 close_empty_step t ls [] w k = tt
@@ -149,7 +151,7 @@ end_empty_step t ls (_ ∷ fs) w k = tt
 
 want_step_ok : (t : Token) (ls : List Line) (fs : List Frame) → IsConfig (want ls fs) → MayStep t (want ls fs) (want_step t.kind t ls fs)
 want_step_ok t ls fs w = elim t.kind as (λ k. t.kind ≡ k → MayStep t (want ls fs) (want_step k t ls fs)) [
-    Number n ↦ λ k. leaf_step t ls fs w (ap is_leaf k)
+  | Number n ↦ λ k. leaf_step t ls fs w (ap is_leaf k)
   | Wide least ↦ λ k. wide_step t ls fs least w k
   | Text n ↦ λ k. leaf_step t ls fs w (ap is_leaf k)
   | Name n ↦ λ k. leaf_step t ls fs w (ap is_leaf k)
@@ -158,7 +160,8 @@ want_step_ok t ls fs w = elim t.kind as (λ k. t.kind ≡ k → MayStep t (want 
   | CloseParen ↦ λ k. close_empty_step t ls fs w k
   | Semicolon ↦ λ k. end_empty_step t ls fs w (ap is_separator k)
   | LineEnd ↦ λ k. end_empty_step t ls fs w (ap is_separator k)
-  | _ ↦ λ k. tt ] refl
+  | _ ↦ λ k. tt
+] refl
 
 -- what is read once more than the closed part
 closed_tokens : (p : ℕ) (ls : List Line) (fs : List Frame) (e : Syntax) (rest : List Token)
@@ -171,7 +174,8 @@ binary_step t ls fs e p w k p1 p2 =
     let r : IsClosed p (close p fs e) = close_ok p 4 fs e p2 (omega arith) w.operand (omega (arith, demand_le fs)) w.frames in
     record {
       config = record { lines = w.lines; frames = rw k (p1, r.operand, r.fits, r.frames); operand = tt };
-      tokens = λ rest. closed_tokens p ls fs e (t ∷ rest) }
+      tokens = λ rest. closed_tokens p ls fs e (t ∷ rest);
+    }
 
 closed_of : (ls : List Line) (fs : List Frame) (e : Syntax) → IsConfig (have ls fs e) → IsClosed 0 (close 0 fs e)
 closed_of ls fs e w = close_ok 0 4 fs e (omega arith) (omega arith) w.operand (omega (arith, demand_le fs)) w.frames
@@ -182,8 +186,9 @@ close_step t ls c ([], e) w k v h = tt
 close_step t ls c (in_unary _ ∷ fs, e) w k v h = tt
 close_step t ls c (in_binary _ _ ∷ fs, e) w k v h = tt
 close_step t ls c (in_listed f o es ∷ fs, e) w k v h = record {
-    config = record { lines = w; frames = v.frames.3; operand = (v.frames.0, v.frames.1, v.frames.2, v.operand, k) };
-    tokens = λ rest. h (t ∷ rest) }
+  config = record { lines = w; frames = v.frames.3; operand = (v.frames.0, v.frames.1, v.frames.2, v.operand, k) };
+  tokens = λ rest. h (t ∷ rest);
+}
 
 comma_step : (t : Token) (ls : List Line) (c : Config) (r : List Frame × Syntax) → AreLines ls → t.kind ≡ Comma → IsClosed 0 r
     → ((rest : List Token) → put_lines ls (put_frames r.0 (put r.1 rest)) ≡ put_config c rest) → MayStep t c (at_comma ls t r)
@@ -191,8 +196,9 @@ comma_step t ls c ([], e) w k v h = tt
 comma_step t ls c (in_unary _ ∷ fs, e) w k v h = tt
 comma_step t ls c (in_binary _ _ ∷ fs, e) w k v h = tt
 comma_step t ls c (in_listed f o es ∷ fs, e) w k v h = record {
-    config = record { lines = w; frames = (v.frames.0, v.frames.1, are_with_comma es e t v.frames.2 v.operand k, v.frames.3); operand = tt };
-    tokens = λ rest. ap (λ ts. put_lines ls (put_frames fs (put_maybe f (o ∷ ts)))) (put_with_comma es e t rest) ∙ h (t ∷ rest) }
+  config = record { lines = w; frames = (v.frames.0, v.frames.1, are_with_comma es e t v.frames.2 v.operand k, v.frames.3); operand = tt };
+  tokens = λ rest. ap (λ ts. put_lines ls (put_frames fs (put_maybe f (o ∷ ts)))) (put_with_comma es e t rest) ∙ h (t ∷ rest);
+}
 
 abbrev pub HasLine : (List Token → List Token) → Option Syntax → Type 0
 HasLine f None = Unit {0}
@@ -214,7 +220,7 @@ line_step t ls fs e w k = end_step t ls (have ls fs e) (λ rest. put_frames (clo
 
 have_step_ok : (t : Token) (ls : List Line) (fs : List Frame) (e : Syntax) → IsConfig (have ls fs e) → MayStep t (have ls fs e) (have_step t.kind t ls fs e)
 have_step_ok t ls fs e w = elim t.kind as (λ k. t.kind ≡ k → MayStep t (have ls fs e) (have_step k t ls fs e)) [
-    Plus ↦ λ k. binary_step t ls fs e 1 w (ap strength k) (omega arith) (omega arith)
+  | Plus ↦ λ k. binary_step t ls fs e 1 w (ap strength k) (omega arith) (omega arith)
   | Minus ↦ λ k. binary_step t ls fs e 1 w (ap strength k) (omega arith) (omega arith)
   | Star ↦ λ k. binary_step t ls fs e 2 w (ap strength k) (omega arith) (omega arith)
   | Divide ↦ λ k. binary_step t ls fs e 2 w (ap strength k) (omega arith) (omega arith)
@@ -224,12 +230,14 @@ have_step_ok t ls fs e w = elim t.kind as (λ k. t.kind ≡ k → MayStep t (hav
   | Comma ↦ λ k. comma_step t ls (have ls fs e) (close 0 fs e) w.lines k (closed_of ls fs e w) (closed_tokens 0 ls fs e)
   | Semicolon ↦ λ k. line_step t ls fs e w (ap is_separator k)
   | LineEnd ↦ λ k. line_step t ls fs e w (ap is_separator k)
-  | _ ↦ λ k. tt ] refl
+  | _ ↦ λ k. tt
+] refl
 
 pub step_ok : (t : Token) (c : Config) → IsConfig c → MayStep t c (step t c)
 step_ok t c w = elim c.operand as (λ o. c.operand ≡ o → MayStep t (record { lines = c.lines; frames = c.frames; operand = o }) (step_at t c.lines c.frames o)) [
-    None ↦ λ q. want_step_ok t c.lines c.frames (record { lines = w.lines; frames = w.frames; operand = tt })
-  | Some e ↦ λ q. have_step_ok t c.lines c.frames e (record { lines = w.lines; frames = w.frames; operand = subst IsOperand q w.operand }) ] refl
+  | None ↦ λ q. want_step_ok t c.lines c.frames (record { lines = w.lines; frames = w.frames; operand = tt })
+  | Some e ↦ λ q. have_step_ok t c.lines c.frames e (record { lines = w.lines; frames = w.frames; operand = subst IsOperand q w.operand })
+] refl
 
 -- ---- a whole run, and the end
 

@@ -80,6 +80,16 @@ abbrev mutual
   is_last_sum nothing = false
   is_last_sum (just e) = is_sum e
 
+-- what parentheses that call nothing hold in a sum
+abbrev pub is_group : Commas → Maybe → Bool
+is_group most last = is_none most && is_last_sum last
+
+-- what is called in a sum, and its arguments
+abbrev pub is_application : Syntax → Commas → Maybe → Bool
+is_application f most last =
+    if is_leaf_of is_bound f then is_none most && is_last_leaf_of is_int last
+    else is_leaf_of is_division f && (is_single most && (are_sums most && is_last_sum last))
+
 abbrev pub is_argument : Syntax → Bool
 is_argument e = is_leaf_of is_text e || is_sum e
 
