@@ -210,7 +210,7 @@ fn number_kind(value: u64) -> Kind
     ensures { result ≡ number_kind value }
 {
     if value < 1 << 63 {
-        Kind::Number(value)
+        Kind::Number(value as i64)
     } else {
         Kind::Wide(value == 1 << 63)
     }
