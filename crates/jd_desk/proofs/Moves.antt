@@ -13,9 +13,10 @@ use lib.ListN.{get_elem?}
 use Rattle.atomic_table.specs.Table.{Me, keeps, step, Allows, Splits, Joins, opening}
 use Rattle.atomic_table.proofs.Lists.{at_set, at_snoc, set_again}
 use Rattle.jd_desk.specs.declared.rule.View.{View}
+use Rattle.jd_desk.specs.declared.rule.TheConstants.{SHARES}
 use Rattle.jd_desk.specs.declared.seat.Holding.{Holding}
 use Rattle.jd_desk.specs.Holding.{only_shares, both_held, IsPrefix, IsAtPlace, AreAtPlaces, count_at, IsWhole, FitsList}
-use Rattle.jd_desk.specs.Views.{all_shares, seat_view, first_view, emptied, without_list, less_one, one_share, joined, spent, grown, Fits, Kept, Looks, Adds}
+use Rattle.jd_desk.specs.Views.{seat_view, first_view, emptied, without_list, less_one, one_share, joined, spent, grown, Fits, Kept, Looks, Adds}
 use Rattle.jd_desk.proofs.Lists.{sum_by-set_at, sum_by-zeros, sum_by-only, count_at-append, count_at-below, count_at-within, count_at-outside, placed-longer, placed-appended, drop-front, prefixes-longer}
 
 module _ {E : Type 0} where
@@ -77,7 +78,7 @@ module _ {E S : Type 0} where
   }
     where
       one : (id : ℕ) (v : View E) → get_elem? (first_view {E = E} ∷ []) id ≡ some v → Fits 0 [] id v
-      one zero v at = subst (Fits 0 [] 0) (some-injective _ _ at) (record { has_list = λ xs is. (refl, sym (some_is xs is)); held = bare_fits [] all_shares; idle = λ _. refl })
+      one zero v at = subst (Fits 0 [] 0) (some-injective _ _ at) (record { has_list = λ xs is. (refl, sym (some_is xs is)); held = bare_fits [] SHARES; idle = λ _. refl })
         where
           some_is : (xs : List E) → Some [] ≡ Some xs → [] ≡ xs
           some_is xs is = cc

@@ -1,5 +1,5 @@
 -- Facts of lists that seats saw, carried through joins to the final list.
-use Rattle.std.proofs.Common.{◌≡◌, ℕ, ◌+◌, ◌<◌, List, ◌++◌, length, ◌∙◌, subst, arith, length-append}
+use Rattle.std.proofs.Common.{◌+◌, List, ◌++◌, length, ◌∙◌, subst, arith, length-append}
 use Rattle.std.specs.Prelude.{All, Any}
 use Rattle.std.proofs.lemmas.List.{get_or_append_left, get_or-append-add}
 use Rattle.jd_desk.specs.Holding.{IsPrefix}

@@ -1,5 +1,5 @@
 -- What becomes of the book's view and of a seat's in one turn.
-use Rattle.std.proofs.Common.{◌≡◌, ℕ, List, [], ◌∷◌, ◌++◌, length, drop, ap, ◌∙◌, subst, arith}
+use Rattle.std.proofs.Common.{◌≡◌, ℕ, List, [], ◌∷◌, ◌++◌, length, drop, ap, ◌∙◌, subst, sym, arith}
 use Rattle.std.specs.List.{enumerate_from}
 use Rattle.atomic_table.specs.Table.{Me}
 use Rattle.jd_desk.specs.declared.rule.View.{View}
@@ -33,3 +33,9 @@ module _ {E S : Type 0} where
         (λ l. record { shares = held.shares; entries = held.entries ++ enumerate_from (length found) l; seen = held.seen ++ left ∷ [] })
         (ap (drop (length found)) more.1 ∙ drop-front found more.0);
   }
+
+-- the call may use what the seat holds, and leaves a list that begins with the list that it found
+pub leaves_more : {E T : Type 0} (log : T → List E) (inside outside left : T) (held old : Holding E) → inside ≡ outside → held ≡ old → FitsList (log inside) held → (FitsList (log outside) old → IsPrefix (log outside) (log left)) → IsPrefix (log inside) (log left)
+leaves_more log inside outside left held old value_is held_is fits grows =
+    let now : FitsList (log outside) old = subst (λ h. FitsList (log outside) h) held_is (subst (λ x. FitsList (log x) held) value_is fits) in
+    subst (λ x. IsPrefix (log x) (log left)) (sym value_is) (grows now)

@@ -31,6 +31,7 @@ module _ {E : Type 0} where
   abbrev pub IsAtPlace : List E → ℕ × E → Type 0
   IsAtPlace list entry = slice_get list entry.0 ≡ Some entry.1
 
+  -- each of the entries is
   abbrev pub AreAtPlaces : List E → List (ℕ × E) → Type 0
   AreAtPlaces list entries = All (IsAtPlace list) entries
 

@@ -5,12 +5,9 @@ use mathlib.Core.Option.{Option, some, none}
 use lib.ListN.{get_elem?}
 use Rattle.atomic_table.specs.Table.{State, Me, Step}
 use Rattle.jd_desk.specs.declared.rule.View.{View}
+use Rattle.jd_desk.specs.declared.rule.TheConstants.{SHARES}
 use Rattle.jd_desk.specs.declared.seat.Holding.{Holding}
 use Rattle.jd_desk.specs.Holding.{only_shares, both_held, FitsList, IsWhole, count_at}
-
--- how many shares all views have together
-abbrev pub all_shares : ℕ
-all_shares = 1024
 
 module _ {E : Type 0} where
   -- the view of a seat: what it holds, and no list
@@ -27,7 +24,7 @@ module _ {E : Type 0} where
 
   -- the one view of a new table: all shares, and the empty list
   abbrev pub first_view : View E
-  first_view = list_view (only_shares all_shares) []
+  first_view = list_view (only_shares SHARES) []
 
   abbrev pub emptied : View E → View E
   emptied v = record { held = only_shares 0; list = v.list }
@@ -71,7 +68,7 @@ module _ {E : Type 0} where
     pub book : ℕ
     pub list : List E
     pub words : s.words ≡ length list ∷ []
-    pub shares : sum_by (λ v. v.held.shares) s.views ≡ all_shares
+    pub shares : sum_by (λ v. v.held.shares) s.views ≡ SHARES
     pub once : (place : ℕ) → place < length list → sum_by (λ v. count_at place v.held.entries) s.views ≡ 1
     pub fits : (id : ℕ) (v : View E) → get_elem? s.views id ≡ some v → Fits book list id v
 
@@ -80,7 +77,7 @@ module _ {E : Type 0} where
     pub record Looks (before after : Me T (View E)) : Type 0 where
       pub same : after ≡ before
       pub fits : (xs : List E) → before.0.list ≡ Some xs → FitsList xs before.0.held
-      pub whole : (xs : List E) → before.0.list ≡ Some xs → before.0.held.shares ≡ all_shares → IsWhole xs before.0.held.entries
+      pub whole : (xs : List E) → before.0.list ≡ Some xs → before.0.held.shares ≡ SHARES → IsWhole xs before.0.held.entries
 
     -- the list of the value that the step announces
     abbrev pub announced : (T → List E) → Option T → List E

@@ -2,7 +2,7 @@
 ghost use Rattle.std.specs.Prelude.{◌≡◌, ◌-◌, ◌≤◌, [], IfOk, All};
 ghost use Rattle.std.specs.Fn.{FnOnceTakesAtMut, FnOnceReturnsAtMut};
 ghost use Rattle.jd_desk.specs.Holding.{only_shares, both_held, FitsList, IsPrefix, IsWhole, TakesTurn};
-ghost use Rattle.jd_desk.specs.Views.{book_view, first_view};
+ghost use Rattle.jd_desk.specs.Views.{book_view};
 
 use crate::logged::Logged;
 use crate::rule::{Add, JoinAll, Look, SHARES, SharedList, SplitAll, SplitShare, View};
@@ -59,7 +59,10 @@ impl<T: Logged> Model for UnnamedDesk<T> {
 
     ghost view = { λ s. record { value = s.value; table = s.table.shared.table_id } };
 
-    ghost invariant = { λ s. (s.pass.me ≡ (first_view, [])) × (T.log s.value ≡ []) × (s.pass.table_id ≡ s.table.shared.table_id) × (s.table.shared.table_id.words ≡ 1) };
+    ghost invariant = { λ s.
+        (s.pass.me ≡ (first_view, [])) × (T.log s.value ≡ [])
+        × (s.pass.table_id ≡ s.table.shared.table_id)
+        × (s.table.shared.table_id.words ≡ 1) };
 }
 
 impl<T: Logged> UnnamedDesk<T> {
@@ -109,7 +112,10 @@ impl<T: Logged, N: DeskName> Locked<T, N> {
     ) -> X
         requires named { (shared.now.table_id ≡ N.table) × (shared.now.table_id.words ≡ 1) }
         requires may { FitsList (T.log self.old) seat.old → FnOnceTakesAtMut F.FnOnce call self.old }
-        requires grows { (answer : X) (left : T) → FitsList (T.log self.old) seat.old → FnOnceReturnsAtMut F.FnOnce call self.old answer left → IsPrefix (T.log self.old) (T.log left) }
+        requires grows { (answer : X) (left : T)
+            → FitsList (T.log self.old) seat.old
+            → FnOnceReturnsAtMut F.FnOnce call self.old answer left
+            → IsPrefix (T.log self.old) (T.log left) }
         ensures called { FnOnceReturnsAtMut F.FnOnce call self.old result self.new }
         ensures turn { TakesTurn (T.log self.old) (T.log self.new) seat.old seat.new }
     {
@@ -135,9 +141,18 @@ impl<T: Logged, N: DeskName> Desk<T, N> {
         seat: &mut Seat<T, N>,
         call: F,
     ) -> X
+        // Of the list that it finds, the call may use that what the seat holds is true of it.
         requires may { (found : T) → FitsList (T.log found) seat.old → FnOnceTakesAtMut F.FnOnce call found }
-        requires grows { (found left : T) (answer : X) → FitsList (T.log found) seat.old → FnOnceReturnsAtMut F.FnOnce call found answer left → IsPrefix (T.log found) (T.log left) }
-        ensures { (found left : T) × FnOnceReturnsAtMut F.FnOnce call found result left × TakesTurn (T.log found) (T.log left) seat.old seat.new }
+
+        // The list that the call leaves begins with the list that it finds.
+        requires grows { (found left : T) (answer : X)
+            → FitsList (T.log found) seat.old
+            → FnOnceReturnsAtMut F.FnOnce call found answer left
+            → IsPrefix (T.log found) (T.log left) }
+
+        ensures { (found left : T)
+            × FnOnceReturnsAtMut F.FnOnce call found result left
+            × TakesTurn (T.log found) (T.log left) seat.old seat.new }
     {
         let mut guard = self.lock.lock(rt);
         let locked = &mut *guard;

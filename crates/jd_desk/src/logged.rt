@@ -1,10 +1,10 @@
 //! What a value needs so that threads can take turns at it.
-ghost use Rattle.std.specs.Prelude.{List};
 
 /// A value with a list of entries. Each turn at a desk may only append to it.
 pub trait Logged {
     ghost use Rattle.std.specs.Prelude.{List, ◌≡◌, length};
 
+    /// An entry of the list.
     type Entry;
 
     ghost log: { Self → List Self.Entry };

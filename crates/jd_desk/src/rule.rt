@@ -1,12 +1,10 @@
 //! What a token of a desk's table knows, the rule that ties all of them together, and the steps.
-ghost use Rattle.std.specs.Prelude.{List};
-
 use crate::logged::Logged;
 use crate::seat::Holding;
 use atomic_table::{Join, Play, Split, TableRule};
 use std::collections::LinkedList;
 
-/// How many shares a desk has: the first seat has them all, and so many seats there can be at most.
+/// How many shares a desk has, by this project's own choice: the first seat has them all, and each seat has at least one.
 pub const SHARES: u64 = 1024;
 
 /// What a token of the table knows. No value of it is made.

@@ -11,6 +11,7 @@ pub trait DeskName {
     ghost table: { TableId };
 }
 
+// A call that passes `Brand` picks the table in its proof, from its arguments: that of the `UnnamedDesk` that it is given.
 impl DeskName for Brand {
     ghost use Rattle.jd_desk.specs.Holding.{no_table};
 
@@ -43,5 +44,8 @@ impl<T: Logged, N: DeskName> Model for Seat<T, N> {
 
     ghost view = { λ s. s.pass.me.0.held };
 
-    ghost invariant = { λ s. (s.pass.table_id ≡ N.table) × (s.pass.me ≡ (seat_view s.pass.me.0.held, [])) × (0 < s.pass.me.0.held.shares) };
+    ghost invariant = { λ s.
+        (s.pass.table_id ≡ N.table)
+        × (s.pass.me ≡ (seat_view s.pass.me.0.held, []))
+        × (0 < s.pass.me.0.held.shares) };
 }
