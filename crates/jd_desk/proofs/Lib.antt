@@ -1,0 +1,5 @@
+pub mod Lists
+pub mod Moves
+pub mod Turning
+pub mod Order
+pub mod Seen
