@@ -1,7 +1,7 @@
 -- A script that was read up to one byte past the limit.
 use Rattle.std.proofs.Common.{◌≡◌, ℕ, suc, ◌+◌, ◌<◌, ◌≤◌, List, length, take, drop, refl, sym, ◌∙◌, ap, subst, arith, Option, Some, None, IfSome, IsSome, Result, Ok, Err, length-take, min}
 use Rattle.std.proofs.lemmas.Grind.{common_steps}
-use Rattle.jd_source.specs.Content.{content_of, Opens}
+use Rattle.jd_source.specs.Content.{content_of, Opens, TakesAtMost}
 use Rattle.jd_syntax.specs.Grammar.{Script}
 use Rattle.jd_syntax.specs.Spelling.{Spells}
 use Rattle.jd_syntax.specs.Answers.{RefusesAs}
@@ -48,3 +48,11 @@ told_bytes (Some fs) name (Some xs) limit bytes kept content o r e f =
     let there : Some xs ≡ Some content = o.1 ∙ ap (λ k. content_of k name) same ∙ f in
     let content_is : xs ≡ content = cc in
     r ∙ ap (take limit) content_is
+
+-- what was taken off an open file was taken off its content
+pub taken_content : (files : Option (List (List ℕ × List ℕ))) (name : List ℕ) (left new : Option (List ℕ)) (limit : ℕ) (kept : List (List ℕ × List ℕ)) (content : List ℕ) →
+    Opens files name left → TakesAtMost limit left new → files ≡ Some kept → content_of kept name ≡ Some content → TakesAtMost limit (Some content) new
+taken_content None name left new limit kept content o t e f = cc
+taken_content (Some fs) name left new limit kept content o t e f =
+    let same : fs ≡ kept = cc in
+    subst (λ k. TakesAtMost limit k new) (o.1 ∙ ap (λ k. content_of k name) same ∙ f) t

@@ -64,10 +64,6 @@ abbrev pub Tells : Option (List (List ℕ × List ℕ)) → List (String Global)
 Tells files words content =
     (name : List ℕ) × (kept : List (List ℕ × List ℕ)) × (file_of words ≡ Some name) × (files ≡ Some kept) × (content_of kept name ≡ Some content)
 
--- At most one byte more than the longest script was taken off the content.
-abbrev pub TakesScript : List ℕ → Option (List ℕ) → Type 0
-TakesScript content left = IfSome left (λ rest. (taken : List ℕ) × (content ≡ taken ++ rest) × (length taken ≤ MAX_SCRIPT + 1))
-
 -- Nothing is written at these endings.
 abbrev pub IsQuiet : Ending → Type 0
 IsQuiet ending.Usage = ⊤
@@ -82,10 +78,10 @@ IsWhole (ending.ScriptError fault) = ⊤
 IsWhole ending.WriteFault = ⊤
 IsWhole _ = ⊥
 
--- At these endings the file was begun.
-abbrev pub IsBegun : Ending → Type 0
-IsBegun ending.Usage = ⊥
-IsBegun ending.ReadFault = ⊥
+-- The file was begun, unless the status is one of these.
+abbrev pub IsBegun : Status → Type 0
+IsBegun status.Usage = ⊥
+IsBegun status.ReadFault = ⊥
 IsBegun _ = ⊤
 
 abbrev pub kind_text : ParseKind → List ℕ
@@ -123,6 +119,10 @@ abbrev pub LowersTo : Script → Result (List Line) Ending → Type 0
 LowersTo script (Ok lines) = lowered script ≡ Some lines
 LowersTo script (Err ending.OutOfMemory) = ⊤
 LowersTo script (Err _) = ⊥
+
+abbrev pub IsLoaded : Result (List Line) Ending → Type 0
+IsLoaded (Ok lines) = ⊤
+IsLoaded (Err end) = IsBegun (status_of end)
 
 -- Loading ends the run in these ways alone.
 abbrev pub IsLoadEnding : Ending → Type 0

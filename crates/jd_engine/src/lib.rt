@@ -11,6 +11,8 @@ mod print;
 mod report;
 mod simulate;
 mod status;
+#[cfg(test)]
+mod tests;
 
 pub use simulate::sim;
 pub use status::Status;

@@ -1,11 +1,11 @@
 //! From the words to the lines of the script.
-ghost use Rattle.std.specs.Prelude.{◌≡◌, ◌≤◌, ℕ, List, Some, Err, IfErr, OnOk, length, option_map, IsTrue};
+ghost use Rattle.std.specs.Prelude.{◌≡◌, ◌≤◌, ◌+◌, ℕ, List, Some, Err, IfErr, OnOk, length, option_map, IsTrue};
 ghost use Rattle.jd_source.specs.Counts.{Rose};
-ghost use Rattle.jd_source.specs.Content.{content_of, AsksAtMost};
+ghost use Rattle.jd_source.specs.Content.{content_of, AsksAtMost, TakesAtMost};
 ghost use Rattle.jd_syntax.specs.Grammar.{IsBlock};
 ghost use Rattle.jd_syntax.specs.Plain.{plain_script};
 ghost use Rattle.jd_syntax.specs.Pure.{is_pure};
-ghost use Rattle.jd_engine.specs.Endings.{file_of, Loads, IsLoadEnding, LowersTo};
+ghost use Rattle.jd_engine.specs.Endings.{file_of, Loads, IsLoaded, IsLoadEnding, LowersTo};
 
 use crate::lower::{Line, LowerFault, lower};
 use crate::status::Ending;
@@ -65,6 +65,7 @@ pub fn load<S: Opener>(alloc: Global, name: &str, source: &mut S) -> Result<Item
     ensures cause { result ≡ Err Ending.ReadFault → Rose (S.faults source.old) (S.faults source.new) }
     ensures later { S.faults source.old ≤ S.faults source.new }
     ensures whole { OnOk result (Rose (S.ends source.old) (S.ends source.new)) }
+    ensures taken { (kept : List (List ℕ × List ℕ)) (content : List ℕ) → S.files source.old ≡ Some kept → content_of kept name.now ≡ Some content → IsLoaded result → TakesAtMost (MAX_SCRIPT + 1) (Some content) (S.left source.new) }
     ensures files { S.files source.new ≡ S.files source.old }
     ensures asked { AsksAtMost (S.asked source.old) (S.asked source.new) (Some name.now) }
 {

@@ -1,9 +1,9 @@
 //! The top call.
-ghost use Rattle.std.specs.Prelude.{◌≡◌, ◌≤◌, ◌↔◌, ℕ, List, None};
+ghost use Rattle.std.specs.Prelude.{◌≡◌, ◌+◌, ◌↔◌, ℕ, List, None, Some};
 ghost use Rattle.std.specs.Io.KnownBytes.{Keeps};
 ghost use Rattle.jd_source.specs.Counts.{Rose};
-ghost use Rattle.jd_source.specs.Content.{AsksAtMost};
-ghost use Rattle.jd_engine.specs.Endings.{file_of, status_of, line_of, Runs, Tells, IsQuiet, IsWhole, Reports};
+ghost use Rattle.jd_source.specs.Content.{AsksAtMost, TakesAtMost};
+ghost use Rattle.jd_engine.specs.Endings.{file_of, status_of, line_of, Runs, Tells, IsQuiet, IsWhole, IsBegun, Reports};
 ghost use Rattle.jd_engine.specs.declared.status.Ending.{Ending as TheEnding};
 
 use crate::load::{file_name, load};
@@ -11,6 +11,7 @@ use crate::print::print_lines;
 use crate::report::report;
 use crate::status::{Ending, Status};
 use jd_source::{Opener, Sink};
+use jd_syntax::MAX_SCRIPT;
 use std::alloc::Global;
 
 fn run<S: Opener, K: Sink>(alloc: Global, words: &[String], script: &mut S, out: &mut K) -> Ending
@@ -20,6 +21,7 @@ fn run<S: Opener, K: Sink>(alloc: Global, words: &[String], script: &mut S, out:
     ensures read { result ≡ Ending.ReadFault → Rose (S.faults script.old) (S.faults script.new) }
     ensures write { result ≡ Ending.WriteFault → Rose (K.faults out.old) (K.faults out.new) }
     ensures whole { IsWhole result → Rose (S.ends script.old) (S.ends script.new) }
+    ensures taken { (content : List ℕ) → Tells (S.files script.old) words.now content → IsBegun (status_of result) → TakesAtMost (MAX_SCRIPT + 1) (Some content) (S.left script.new) }
     ensures files { S.files script.new ≡ S.files script.old }
     ensures asked { AsksAtMost (S.asked script.old) (S.asked script.new) (file_of words.now) }
 {
@@ -56,6 +58,8 @@ pub fn sim<S: Opener, K: Sink, E: Sink>(
     ensures quiet_usage { result ≡ Status.Usage → Keeps (K.written out.old) (K.written out.new) }
     ensures quiet_refused { result ≡ Status.ScriptRefused → Keeps (K.written out.old) (K.written out.new) }
     ensures quiet_read { result ≡ Status.ReadFault → Keeps (K.written out.old) (K.written out.new) }
+    // At most one byte more than the longest script is read.
+    ensures taken { (content : List ℕ) → Tells (S.files script.old) words.now content → IsBegun result → TakesAtMost (MAX_SCRIPT + 1) (Some content) (S.left script.new) }
     // No other name than that of the words is asked for, and no file is changed.
     ensures asked { AsksAtMost (S.asked script.old) (S.asked script.new) (file_of words.now) }
     ensures files { S.files script.new ≡ S.files script.old }

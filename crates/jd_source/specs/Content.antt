@@ -1,6 +1,6 @@
 -- What a source and a sink tell of their bytes.
 use Rattle.std.specs.Prelude.{◌≡◌, ◌⊎◌, ℕ, ◌<◌, ◌≤◌, List, [], ◌∷◌, ◌++◌, take, length, Option, Some, None, IsSome, ⊤, if◌then◌else◌, Result, MatchResult}
-use Rattle.std.specs.Io.KnownBytes.{Appends}
+use Rattle.std.specs.Io.KnownBytes.{Appends, Consumes}
 use Rattle.std.specs.Str.{bytes_eq}
 
 -- The bytes under a name, the first where it stands twice.
@@ -33,3 +33,7 @@ AppendsPart old new piece = (n : ℕ) × (n < length piece) × Appends old new (
 -- Told bytes grow by a front part of the text, or all of it.
 abbrev pub AppendsFront : Option (List ℕ) → Option (List ℕ) → List ℕ → Type 0
 AppendsFront old new text = (n : ℕ) × (n ≤ length text) × Appends old new (take n text)
+
+-- Where the bytes to come are told, so many of them at most were taken off.
+abbrev pub TakesAtMost : ℕ → Option (List ℕ) → Option (List ℕ) → Type 0
+TakesAtMost limit old new = (taken : List ℕ) × (length taken ≤ limit) × Consumes old new taken

@@ -2,7 +2,7 @@
 ghost use Rattle.std.specs.Prelude.{◌≡◌, ◌<◌, ◌≤◌, ℕ, IfOk, IfSome, OnOk, OnErr, length, vec_len, take, Err};
 ghost use Rattle.std.specs.Io.KnownBytes.{Appends};
 ghost use Rattle.jd_source.specs.Counts.{Rose, HasCause};
-ghost use Rattle.jd_source.specs.Content.{AppendsPart};
+ghost use Rattle.jd_source.specs.Content.{AppendsPart, TakesAtMost};
 ghost use Rattle.jd_source.specs.declared.transfer.ReadFault.TheVariants.{OutOfMemory};
 
 use crate::traits::{Failed, Sink, Source};
@@ -35,6 +35,7 @@ pub fn read_up_to<S: Source>(
     ensures end { IfOk result (λ v. vec_len v < limit → Rose (S.ends source.old) (S.ends source.new)) }
     ensures failed { result ≡ Err ReadFault.Failed → Rose (S.faults source.old) (S.faults source.new) }
     ensures later { S.faults source.old ≤ S.faults source.new }
+    ensures taken { TakesAtMost limit (S.left source.old) (S.left source.new) }
     ensures files { S.files source.new ≡ S.files source.old }
     ensures asked { S.asked source.new ≡ S.asked source.old }
 {

@@ -1,0 +1,174 @@
+//! Whole runs over objects in memory: the worked examples, which statuses come, and that enough memory suffices.
+use crate::{Status, sim};
+use jd_source::{MemFile, MemSink, MemSource};
+use std::alloc::{AllocError, Global};
+use std::test::Fail;
+
+struct Run {
+    script: &'static [u8],
+    out: &'static [u8],
+    err: &'static [u8],
+    status: Status,
+}
+
+const RUNS: [Run; 13] = [
+    Run {
+        script: b"",
+        out: b"",
+        err: b"",
+        status: Status::Done,
+    },
+    Run {
+        script: b"println(typemax(Int) + 1)",
+        out: b"-9223372036854775808\n",
+        err: b"",
+        status: Status::Done,
+    },
+    Run {
+        script: b"println(div(-7, 2), \" \", mod(-7, 2), \" \", rem(typemin(Int), -1))",
+        out: b"-3 1 0\n",
+        err: b"",
+        status: Status::Done,
+    },
+    Run {
+        script: b"println(div(typemin(Int), -1))",
+        out: b"",
+        err: b"ERROR: DivideError()\n",
+        status: Status::ScriptError,
+    },
+    Run {
+        script: b"println(1); println(1 % 0); println(2)",
+        out: b"1\n",
+        err: b"ERROR: DivideError()\n",
+        status: Status::ScriptError,
+    },
+    Run {
+        script: b"println(2 - 3 - 4, \" \", 2 - 3 * 4, \" \", -(2 - 3) * 4, \" \", 7 % 4 * 2)",
+        out: b"-5 -10 4 6\n",
+        err: b"",
+        status: Status::Done,
+    },
+    Run {
+        script: b"println(-9223372036854775808 * -1 - (2 *\n 3), \"\\$ \\\"\\\\\\n\\t\")",
+        out: b"9223372036854775802$ \"\\\n\t\n",
+        err: b"",
+        status: Status::Done,
+    },
+    Run {
+        script: b"\n;println()# nothing\r\n;;println(1_000 \xc3\xb7 7, mod(7, -2), rem(7, -2))",
+        out: b"\n142-11\n",
+        err: b"",
+        status: Status::Done,
+    },
+    Run {
+        script: b"println(1 +",
+        out: b"",
+        err: b"REFUSED line 0: Form\n",
+        status: Status::ScriptRefused,
+    },
+    Run {
+        script: b"println(1) println(2)",
+        out: b"",
+        err: b"REFUSED line 0: Form\n",
+        status: Status::ScriptRefused,
+    },
+    Run {
+        script: b"println(9223372036854775808)",
+        out: b"",
+        err: b"REFUSED line 0: Form\n",
+        status: Status::ScriptRefused,
+    },
+    Run {
+        script: b"println(x)",
+        out: b"",
+        err: b"REFUSED line 0: Form\n",
+        status: Status::ScriptRefused,
+    },
+    Run {
+        script: b"println(\"\xff\")",
+        out: b"",
+        err: b"REFUSED line 0: Form\n",
+        status: Status::ScriptRefused,
+    },
+];
+
+fn source(alloc: Global, script: &[u8], failing: &[u64]) -> Result<MemSource, AllocError> {
+    let mut files = Vec::new(alloc);
+    files.push(MemFile {
+        name: String::from_str(alloc, "FILE")?,
+        bytes: Vec::from_slice(alloc, script)?,
+    })?;
+    Ok(MemSource::new(alloc, files, Vec::from_slice(alloc, failing)?))
+}
+
+fn sink(alloc: Global, failing: &[u64]) -> Result<MemSink, AllocError> {
+    Ok(MemSink::new(alloc, Vec::from_slice(alloc, failing)?))
+}
+
+fn words(alloc: Global, all: &[&str]) -> Result<Vec<String>, AllocError> {
+    let mut words = Vec::new(alloc);
+    for word in all {
+        words.push(String::from_str(alloc, word)?)?;
+    }
+    Ok(words)
+}
+
+#[test]
+fn scripts_print_their_lines(rt: HostRuntime) -> Result<(), Fail> {
+    let alloc = rt.alloc();
+    let words = words(alloc, &["sim", "FILE"])?;
+    for run in &RUNS {
+        let mut script = source(alloc, run.script, &[])?;
+        let mut out = sink(alloc, &[])?;
+        let mut err = sink(alloc, &[])?;
+        let status = sim(alloc, words.as_slice(), &mut script, &mut out, &mut err);
+        assert_eq!(rt; out.bytes(), run.out);
+        assert_eq!(rt; err.bytes(), run.err);
+        assert_eq!(rt; status, run.status);
+    }
+    Ok(())
+}
+
+#[test]
+fn a_failing_sink_or_source_ends_the_run(rt: HostRuntime) -> Result<(), Fail> {
+    let alloc = rt.alloc();
+    let words = words(alloc, &["sim", "FILE"])?;
+    let mut script = source(alloc, b"println(1); println(2)", &[])?;
+    let mut out = sink(alloc, &[2])?;
+    let mut err = sink(alloc, &[1])?;
+    let status = sim(alloc, words.as_slice(), &mut script, &mut out, &mut err);
+    assert_eq!(rt; status, Status::WriteFault);
+    assert_eq!(rt; out.bytes(), b"1\n".as_slice());
+    assert_eq!(rt; err.bytes(), b"".as_slice());
+    let mut unread = source(alloc, b"println(1)", &[2])?;
+    let mut other = sink(alloc, &[])?;
+    let mut told = sink(alloc, &[])?;
+    let status = sim(alloc, words.as_slice(), &mut unread, &mut other, &mut told);
+    assert_eq!(rt; status, Status::ReadFault);
+    assert_eq!(rt; other.bytes(), b"".as_slice());
+    assert_eq!(rt; told.bytes(), b"READ FAULT\n".as_slice());
+    Ok(())
+}
+
+#[test]
+fn other_words_are_usage(rt: HostRuntime) -> Result<(), Fail> {
+    let alloc = rt.alloc();
+    let mut script = source(alloc, b"println(1)", &[])?;
+    let mut out = sink(alloc, &[])?;
+    let mut err = sink(alloc, &[])?;
+    let none = words(alloc, &[])?;
+    assert_eq!(rt;
+        sim(alloc, none.as_slice(), &mut script, &mut out, &mut err),
+        Status::Usage
+    );
+    let help = words(alloc, &["sim", "--help", "FILE"])?;
+    assert_eq!(rt;
+        sim(alloc, help.as_slice(), &mut script, &mut out, &mut err),
+        Status::Usage
+    );
+    assert_eq!(rt; out.bytes(), b"".as_slice());
+    let line =
+        b"usage: jd sim, run or gen, see the manual\nusage: jd sim, run or gen, see the manual\n";
+    assert_eq!(rt; err.bytes(), line.as_slice());
+    Ok(())
+}
