@@ -1,5 +1,5 @@
 -- A set of names as the list of their texts.
-use Rattle.std.proofs.Common.{ℕ, ◌≤◌, length, ◌+◌, Bool, true, false, ◌≡◌, List, [], ◌∷◌, ◌++◌, if◌then◌else◌, refl, ap, ◌∙◌}
+use Rattle.std.proofs.Common.{ℕ, ◌≤◌, length, ◌+◌, true, false, ◌≡◌, List, [], ◌∷◌, ◌++◌, if◌then◌else◌, refl, ap, ◌∙◌}
 use Rattle.std.specs.Prelude.{nat_eq, ◌||◌, not}
 use Rattle.std.specs.List.{list_any, position_or_len}
 use Rattle.std.specs.Str.{bytes_eq}

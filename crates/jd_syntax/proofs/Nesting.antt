@@ -1,12 +1,12 @@
 -- The least depth that a block can have which begins with what was read: a step makes it what the construct reaches
 -- that it begins, where that is more.
-use Rattle.std.proofs.Common.{ℕ, ◌≡◌, ◌≤◌, ◌<◌, ◌+◌, max, Bool, true, false, List, [], ◌∷◌, ◌++◌, length, Option, Some, None, nat_le, if◌then◌else◌, refl, sym, ap, subst, ◌∙◌, arith}
+use Rattle.std.proofs.Common.{ℕ, ◌≡◌, ◌≤◌, ◌+◌, max, Bool, true, false, List, [], ◌∷◌, ◌++◌, length, Option, Some, None, nat_le, if◌then◌else◌, refl, subst, arith}
 use Rattle.jd_grammar.specs.declared.token.Token.{Token}
 use Rattle.jd_grammar.specs.declared.token.Kind.{Kind}
 use Rattle.jd_grammar.specs.declared.token.Kind.TheVariants.{Number, Wide, Text, Name, Plus, Minus, Star, Divide, Percent, OpenParen, CloseParen, Comma, Semicolon, LineEnd}
-use Rattle.jd_syntax.specs.Grammar.{Syntax, leaf, unary, binary, listed, Commas, none, more, Maybe, nothing, just, Line, Block, strength}
-use Rattle.jd_syntax.specs.Depth.{height, height_commas, height_maybe, depth_line, depth_lines, depth, limit}
-use Rattle.jd_syntax.specs.Machine.{Frame, in_unary, in_binary, in_listed, Config, start, with_comma, close, want, have, ended, line_of, at_comma, at_close, at_end, at_binary, close_empty, end_empty, wide, want_step, have_step, step_at, step, and_then, run, finish_with, finish_at, finish, height_in, height_round, height_operand, needs, reach_of}
+use Rattle.jd_syntax.specs.Grammar.{Syntax, leaf, unary, binary, Commas, none, more, Line, Block, strength}
+use Rattle.jd_syntax.specs.Depth.{height, height_commas, height_maybe, depth_line, depth_lines, depth}
+use Rattle.jd_syntax.specs.Machine.{Frame, in_unary, in_binary, in_listed, Config, with_comma, close, want, have, line_of, at_comma, at_close, at_end, at_binary, close_empty, end_empty, wide, want_step, have_step, step_at, step, and_then, run, finish_with, finish_at, finish, height_in, height_round, needs, reach_of}
 
 height_split : (fs : List Frame) (h : ℕ) → height_round fs h ≡ max (length fs + h) (height_round fs 0)
 height_split [] h = omega arith

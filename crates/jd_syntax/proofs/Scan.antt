@@ -1,5 +1,5 @@
 -- The loop over a script's bytes.
-use Rattle.std.proofs.Common.{ℕ, zero, suc, ◌≡◌, ◌≤◌, ◌<◌, ◌+◌, Bool, true, false, List, [], ◌∷◌, ◌++◌, length, get_or, take, drop, Option, Some, None, if◌then◌else◌, refl, sym, ap, ◌∙◌, arith, length-drop, length-append}
+use Rattle.std.proofs.Common.{ℕ, zero, suc, ◌≡◌, ◌≤◌, ◌<◌, ◌+◌, true, false, List, [], ◌∷◌, ◌++◌, length, get_or, take, drop, Option, Some, None, if◌then◌else◌, sym, ap, ◌∙◌, arith, length-drop, length-append}
 use Rattle.std.specs.Prelude.{◌||◌, nat_lt}
 use Rattle.std.specs.List.{list_any}
 use Rattle.std.specs.Str.{bytes_eq}
@@ -9,7 +9,7 @@ use Rattle.jd_grammar.specs.declared.token.Kind.TheVariants as kind
 use Rattle.jd_syntax.specs.declared.lexeme.Lexeme.{Lexeme}
 use Rattle.jd_syntax.specs.declared.lexeme.Lexeme.TheVariants as lexeme
 use Rattle.jd_syntax.specs.Words.{with_name}
-use Rattle.jd_syntax.specs.Lexical.{opened, gap_at, lexeme_at, Lexed, IsWithin, with_gap, with_lexeme, next, scan, lexed}
+use Rattle.jd_syntax.specs.Lexical.{opened, gap_at, lexeme_at, Lexed, IsWithin, with_gap, with_lexeme, next, scan}
 use Rattle.jd_syntax.proofs.Numbers.{cut}
 
 skip : (at n : ℕ) (s : Lexed) (bs : List ℕ) → n ≤ length bs → scan at n s bs ≡ scan (at + n) 0 s (drop n bs)

@@ -1,10 +1,10 @@
 -- What the machine has read is what its configuration is written with, and each part of it is in the grammar.
-use Rattle.std.proofs.Common.{ℕ, ◌≡◌, ◌≤◌, ◌<◌, ◌+◌, Bool, true, false, IsTrue, List, [], ◌∷◌, ◌++◌, Option, Some, None, nat_le, if◌then◌else◌, refl, sym, ap, subst, ◌∙◌, arith}
+use Rattle.std.proofs.Common.{ℕ, ◌≡◌, ◌≤◌, ◌<◌, ◌+◌, Bool, true, false, IsTrue, List, [], ◌∷◌, ◌++◌, Option, Some, None, nat_le, if◌then◌else◌, refl, ap, subst, ◌∙◌, arith}
 use Rattle.std.proofs.lemmas.Bool.Decides.{nat_tests}
 use Rattle.jd_grammar.specs.declared.token.Token.{Token}
 use Rattle.jd_grammar.specs.declared.token.Kind.{Kind}
 use Rattle.jd_grammar.specs.declared.token.Kind.TheVariants.{Number, Wide, Text, Name, Plus, Minus, Star, Divide, Percent, OpenParen, CloseParen, Comma, Semicolon, LineEnd}
-use Rattle.jd_syntax.specs.Grammar.{Syntax, leaf, unary, binary, listed, Commas, none, more, Maybe, nothing, just, Line, Block, put, put_commas, put_maybe, put_line, put_lines, put_block, is_leaf, strength, is_separator, IsAt, AreAt, IsAtMaybe, IsLine, AreLines, IsBlock}
+use Rattle.jd_syntax.specs.Grammar.{Syntax, leaf, unary, binary, listed, Commas, none, more, Line, Block, put, put_commas, put_maybe, put_line, put_lines, put_block, is_leaf, strength, is_separator, IsAt, AreAt, IsAtMaybe, IsLine, AreLines, IsBlock}
 use Rattle.jd_syntax.specs.Machine.{Frame, in_unary, in_binary, in_listed, Config, start, with_comma, close, want, have, ended, line_of, at_comma, at_close, at_end, at_binary, close_empty, end_empty, wide, want_step, have_step, step_at, step, and_then, run, finish_with, finish_at, finish}
 
 abbrev pub put_frame : Frame → List Token → List Token

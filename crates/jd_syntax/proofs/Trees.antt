@@ -1,13 +1,11 @@
 -- What the code's trees are as plain trees.
-use Rattle.std.proofs.Common.{nat_eq, false, ℕ, suc, ◌≡◌, ◌≤◌, ◌<◌, ◌+◌, length, ◌++◌, min, max, List, [], ◌∷◌, map, Option, Some, None, option_map, sym, ap, refl, ◌∙◌, arith}
+use Rattle.std.proofs.Common.{nat_eq, false, ℕ, suc, ◌≡◌, ◌≤◌, ◌<◌, ◌+◌, length, ◌++◌, min, max, List, [], ◌∷◌, map, ap, refl, ◌∙◌, arith}
 use Rattle.std.proofs.lemmas.Bool.Decides.{nat_tests}
 use Rattle.jd_grammar.specs.declared.token.Token.{Token}
 use Rattle.jd_syntax.specs.Pure.{is_none, is_single}
-use Rattle.jd_syntax.specs.declared.tree.Expr.{Expr, fold-roll-Expr}
+use Rattle.jd_syntax.specs.declared.tree.Expr.{Expr}
 use Rattle.jd_syntax.specs.declared.tree.Item.{Item, roll-Item, fold-roll-Item}
-use Rattle.jd_syntax.specs.declared.tree.Expr.TheOpen as layer
-use Rattle.jd_syntax.specs.declared.tree.Expr.TheVariants as variant
-use Rattle.jd_syntax.specs.Plain.{Inside, plain, plain_item, plain_listing, commas, maybe, plain_at, plain_item_at, plain_listing_at}
+use Rattle.jd_syntax.specs.Plain.{Inside, plain, plain_item, commas, plain_at, plain_item_at, plain_listing_at}
 use Rattle.jd_syntax.specs.declared.machine.Frame.{Frame}
 use Rattle.jd_syntax.specs.declared.machine.Frame.TheVariants as frame
 use Rattle.jd_syntax.specs.Code.{plain_frame, plain_frames}

@@ -1,5 +1,4 @@
 -- The lexer's state as the definition's.
-use Rattle.std.specs.Prelude.{ℕ, List, [], ◌∷◌}
 use Rattle.jd_syntax.specs.declared.lexer.Lexer.{Lexer}
 use Rattle.jd_syntax.specs.Lexical.{Lexed}
 use Rattle.jd_syntax.specs.Names.{texts_of}

@@ -15,6 +15,8 @@ mod names;
 mod parsing;
 mod pure;
 mod stack;
+#[cfg(test)]
+mod tests;
 pub mod tree;
 pub mod words;
 

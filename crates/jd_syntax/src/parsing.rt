@@ -4,7 +4,7 @@ ghost use Rattle.std.specs.Str.{IsUtf8};
 ghost use Rattle.jd_syntax.specs.Grammar as grammar;
 ghost use Rattle.jd_syntax.specs.Plain.{plain_script};
 ghost use Rattle.jd_syntax.specs.Names.{texts_of};
-ghost use Rattle.jd_syntax.specs.Spelling.{Spells};
+ghost use Rattle.jd_syntax.specs.Spelling.{max_script, Spells};
 ghost use Rattle.jd_syntax.specs.Answers.{Parses, Refuses};
 ghost use Rattle.jd_syntax.specs.Code.{ReadsScript};
 
@@ -78,7 +78,7 @@ fn owned(alloc: Global, texts: &[&[u8]]) -> Result<Items<Text>, AllocError>
 }
 
 fn read(alloc: Global, bytes: &[u8]) -> Result<Script, Stop>
-    requires { length bytes.now ≤ MAX_SCRIPT }
+    requires { length bytes.now ≤ max_script }
     ensures found { IfOk result (λ s. Spells bytes.now (plain_script s)) }
     ensures only { (s : grammar.Script) → Spells bytes.now s → ReadsScript result s }
 {

@@ -1,4 +1,4 @@
-use Rattle.std.proofs.Common.{length, ◌-◌, ◌≡◌, ◌+◌, ◌≤◌, drop}
+use Rattle.std.proofs.Common.{length, ◌-◌, ◌≡◌, ◌≤◌, drop}
 use Rattle.jd_syntax.specs.Lexical.{number_at}
 use Rattle.jd_syntax.proofs.Numbers.{capped}
 use Rattle.jd_syntax.proofs.lexeme.number_at.Given as goal

@@ -1,4 +1,4 @@
-use Rattle.std.proofs.Common.{length, ◌-◌, ◌≡◌, ◌+◌, ◌≤◌, drop, [], false}
+use Rattle.std.proofs.Common.{length, ◌-◌, ◌≡◌, ◌≤◌, drop, [], false}
 use Rattle.jd_syntax.specs.Lexical.{text_at}
 use Rattle.jd_syntax.proofs.lexeme.text_at.Given as goal
 

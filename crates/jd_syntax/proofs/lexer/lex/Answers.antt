@@ -1,4 +1,4 @@
-use Rattle.std.proofs.Common.{rules, ◌≤◌, ◌+◌, ◌-◌, ◌∙◌, sym, ap, arith, drop, take, get_or, length, ◌∷◌}
+use Rattle.std.proofs.Common.{rules, ◌≤◌, ◌+◌, ◌∙◌, sym, ap, arith, drop, take, get_or, length, ◌∷◌}
 use Rattle.jd_syntax.specs.Lexical.{gap_at}
 use Rattle.jd_syntax.specs.Lexing.{lexed_of}
 use Rattle.jd_syntax.proofs.Scan.{scan_gap, scan_token, within_more, within_later}
