@@ -8,5 +8,5 @@ pub returns-in_err-extend_from_slice-clause-taken : goal.returns-in_err-extend_f
 returns-in_err-extend_from_slice-clause-taken g c =
     let last = take c.in-Ok.count c.read.new.buf in
     let short : length c.fill.bytes.items + length last ≤ c.args.limit =
-        first_of (search rules, grind (arith, common_steps, length-take c.in-Ok.count c.read.new.buf, c.in-Ok.ensures.bound, c.fill.invariant.0, c.len.ensures, c.len-in-fill.ensures, c.min-room.ensures, c.fill.bytes.ok)) in
+    first_of (search rules, grind (arith, common_steps, length-take c.in-Ok.count c.read.new.buf, c.in-Ok.ensures.bound, c.fill.invariant.0, c.len.ensures, c.len-in-fill.ensures, c.min-room.ensures, c.fill.bytes.ok)) in
     (c.fill.bytes.items ++ last, rw (length-append c.fill.bytes.items last) short, consumes_more _ _ _ c.fill.bytes.items last c.fill.invariant.1 c.in-Ok.ensures.bytes.0)
