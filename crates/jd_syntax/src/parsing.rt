@@ -113,7 +113,8 @@ pub fn parse(alloc: Global, bytes: &[u8]) -> Result<Script, ParseFault>
     ensures found { IfOk result (λ s. Spells bytes.now (plain_script s)) }
     // What is spelled so is read, unless memory runs out.
     ensures only { (s : grammar.Script) → Spells bytes.now s → Parses result s }
-    // Its tokens are cut from the bytes: each is the longest at its place, and blanks and comments stand between.
+    // Its tokens are cut from the bytes: each is the longest at its place, and blanks and comments
+    // stand between.
     ensures cut { IfOk result (λ s. IsCut bytes.now (plain_script s)) }
     // A refusal has its cause.
     ensures refused { IfErr result (Refuses bytes.now) }
