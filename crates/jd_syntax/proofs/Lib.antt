@@ -6,3 +6,6 @@ pub mod Reading
 pub mod Interning
 pub mod Numbers
 pub mod Scan
+pub mod Pieces
+pub mod Cuts
+pub mod Spelled

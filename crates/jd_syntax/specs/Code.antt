@@ -10,7 +10,7 @@ use Rattle.jd_syntax.specs.declared.machine.Frame.TheVariants as frame
 use Rattle.jd_syntax.specs.declared.machine.Stop.{Stop}
 use Rattle.jd_syntax.specs.declared.machine.Stop.TheVariants.{Refused, OutOfMemory}
 use Rattle.jd_syntax.specs.Plain.{plain, plain_item, plain_line, plain_block, plain_script, commas, maybe}
-use Rattle.jd_syntax.specs.Grammar.{Syntax, Commas, Block, Script}
+use Rattle.jd_syntax.specs.Grammar.{Syntax, Commas, Line, Block, Script}
 use Rattle.jd_syntax.specs.Machine as machine
 use Rattle.jd_syntax.specs.Machine.{Config, close}
 
@@ -30,7 +30,15 @@ plain_frames [] = []
 plain_frames (f ∷ fs) = plain_frame f ∷ plain_frames fs
 
 abbrev pub config : List code-line.Line → List Frame → Option Measured → Config
-config ls fs o = record { lines = map plain_line ls; frames = plain_frames fs; operand = option_map plain_measured o }
+config ls fs o =
+    record { lines = map plain_line ls; frames = plain_frames fs; operand = option_map plain_measured o }
+
+abbrev pub plain_lines : List code-line.Line → List Line
+plain_lines ls = map plain_line ls
+
+-- what is left to read into, and the operand, where all is ended that a comma or the end of a line ends
+abbrev pub closed : List Frame → Measured → List machine.Frame × Syntax
+closed fs e = close 0 (plain_frames fs) (plain_measured e)
 
 abbrev pub Closes : ℕ → List Frame → Measured → List Frame → Measured → Type 0
 Closes p fs e gs d = (plain_frames gs, plain_measured d) ≡ close p (plain_frames fs) (plain_measured e)

@@ -11,3 +11,4 @@ pub mod Names
 pub mod Lexing
 pub mod Spelling
 pub mod Answers
+pub mod Cutting

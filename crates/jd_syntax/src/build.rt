@@ -88,7 +88,8 @@ fn expr_of(operand: Option<Measured>) -> Option<Expr>
 }
 
 fn between(opens: Token, most: Arguments, last: Option<Measured>, closes: Token) -> Listing
-    ensures { plain_listing result ≡ record { opens = opens; most = plain_arguments most; last = maybe (option_map plain_measured last); closes = closes } }
+    ensures { let read = maybe (option_map plain_measured last) in
+        plain_listing result ≡ record { opens = opens; most = plain_arguments most; last = read; closes = closes } }
 {
     Listing {
         opens,
@@ -108,7 +109,9 @@ pub fn listing_of(
     last: Option<Measured>,
     closes: Token,
 ) -> Result<Measured, AllocError>
-    ensures { IfOk result (λ m. plain_measured m ≡ listed (maybe (option_map plain_measured head)) opens (plain_arguments most) (maybe (option_map plain_measured last)) closes) }
+    ensures { let callee = maybe (option_map plain_measured head) in
+        let read = maybe (option_map plain_measured last) in
+        IfOk result (λ m. plain_measured m ≡ listed callee opens (plain_arguments most) read closes) }
 {
     let nesting = nesting_of(&head)
         .max(most.nesting)

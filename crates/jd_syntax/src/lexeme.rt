@@ -168,7 +168,8 @@ fn pair_at(bytes: &[u8], next: usize, first: u8) -> Option<Kind>
 #[tactic(auto, using(crate::proofs::Numbers::drop_one))]
 fn ends_xor(bytes: &[u8], next: usize) -> bool
     requires { next ≤ length bytes.now }
-    ensures ends { result ≡ (starts_with 138 (drop next bytes.now) && starts_with 187 (drop 1 (drop next bytes.now))) }
+    ensures ends { let rest = drop next bytes.now in
+        result ≡ (starts_with 138 rest && starts_with 187 (drop 1 rest)) }
     ensures within { IsTrue result → next + 2 ≤ length bytes.now }
 {
     starts_with(bytes, next, 0x8a) && starts_with(bytes, next + 1, 0xbb)
@@ -281,7 +282,8 @@ pub fn slice(bytes: &[u8], at: usize, end: usize) -> &[u8]
 /// The name at a place, and how many bytes it has behind its first.
 fn name_at(bytes: &[u8], at: usize) -> (Lexeme, usize)
     requires { at < length bytes.now }
-    ensures name { result.0 ≡ named (word_kind (take (result.1 + 1) (slice_index bytes.now at ∷ drop (at + 1) bytes.now))) }
+    ensures name { let bytes_from = slice_index bytes.now at ∷ drop (at + 1) bytes.now in
+        result.0 ≡ named (word_kind (take (result.1 + 1) bytes_from)) }
     ensures len { result.1 ≡ name_len (drop (at + 1) bytes.now) }
     ensures within { at + 1 + result.1 ≤ length bytes.now }
 {
@@ -293,7 +295,8 @@ fn name_at(bytes: &[u8], at: usize) -> (Lexeme, usize)
     (lexeme, end - at - 1)
 }
 
-/// The macro name at a place, and how many bytes it has behind its first. None where there is no such macro.
+/// The macro name at a place, and how many bytes it has behind its first. None where there is no
+/// such macro.
 fn macro_at(bytes: &[u8], at: usize) -> Option<(Lexeme, usize)>
     requires { at < length bytes.now }
     ensures name { result ≡ macro_at (slice_index bytes.now at) (drop (at + 1) bytes.now) }
@@ -304,7 +307,8 @@ fn macro_at(bytes: &[u8], at: usize) -> Option<(Lexeme, usize)>
     Some((Lexeme::Plain(kind), end - at - 1))
 }
 
-/// The longest token at a place, and how many bytes it has behind its first. None where no token begins.
+/// The longest token at a place, and how many bytes it has behind its first. None where no token
+/// begins.
 #[tactic(auto, unfolding(crate::specs::Lexical::lexeme_at))]
 pub fn lexeme_at(
     alloc: Global,

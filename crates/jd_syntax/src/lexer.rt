@@ -76,7 +76,8 @@ fn opened(kind: Kind, nest: usize) -> usize
     }
 }
 
-/// How many bytes the blank or the comment at a place has behind its first. None where there is neither.
+/// How many bytes the blank or the comment at a place has behind its first. None where there is
+/// neither.
 fn gap_at(bytes: &[u8], at: usize, blank_end: bool) -> Option<usize>
     requires { at < length bytes.now }
     ensures gap { result ≡ gap_at blank_end (slice_index bytes.now at) (drop (at + 1) bytes.now) }

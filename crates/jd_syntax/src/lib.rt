@@ -7,6 +7,7 @@
 
 mod block;
 mod build;
+pub mod laws;
 mod lexeme;
 mod lexer;
 mod machine;

@@ -1,10 +1,9 @@
 //! The steps that read one token of a block.
-ghost use Rattle.std.specs.Prelude.{◌≡◌, ◌<◌, ◌↔◌, IfOk, IsTrue, Some, map, min, option_map};
+ghost use Rattle.std.specs.Prelude.{◌≡◌, ◌<◌, ◌↔◌, IfOk, IsTrue, Some, min, option_map};
 ghost use Rattle.jd_syntax.specs.Grammar.{strength};
 ghost use Rattle.jd_syntax.specs.Depth.{limit};
-ghost use Rattle.jd_syntax.specs.Plain.{plain_line};
 ghost use Rattle.jd_syntax.specs.Machine.{close, close_empty, end_empty, line_of, at_binary, at_comma, at_close, at_end, want_step, have_step, step_at, finish_at, height_in, reach_of};
-ghost use Rattle.jd_syntax.specs.Code.{plain_measured, plain_frame, plain_frames, Closes, Steps, EndsLine, Ends};
+ghost use Rattle.jd_syntax.specs.Code.{plain_measured, plain_frame, plain_frames, plain_lines, closed, Closes, Steps, EndsLine, Ends};
 
 use crate::build::{binary_of, leaf_of, listing_of, nesting_of, no_arguments, unary_of, with_item};
 use crate::measured::{Arguments, Measured};
@@ -110,7 +109,7 @@ fn closing_empty(
     frames: &mut Stack<Frame>,
     token: Token,
 ) -> Result<Option<Measured>, Stop>
-    ensures { Steps (close_empty (map plain_line lines.now) token (plain_frames frames.old)) lines.now frames.new result }
+    ensures { Steps (close_empty (plain_lines lines.now) token (plain_frames frames.old)) lines.now frames.new result }
 {
     match frames.pop() {
         Some(Frame::Listed(head, opens, most)) => Ok(Some(listing_of(
@@ -126,7 +125,7 @@ fn empty_line(
     frames: &Stack<Frame>,
     token: Token,
 ) -> Result<Option<Measured>, Stop>
-    ensures { Steps (end_empty (map plain_line lines.old) token (plain_frames frames.now)) lines.new frames.now result }
+    ensures { Steps (end_empty (plain_lines lines.old) token (plain_frames frames.now)) lines.new frames.now result }
 {
     match frames.top() {
         Some(_) => Err(Stop::Refused),
@@ -147,7 +146,8 @@ fn want(
     frames: &mut Stack<Frame>,
     token: Token,
 ) -> Result<Option<Measured>, Stop>
-    ensures { Steps (want_step token.kind token (map plain_line lines.old) (plain_frames frames.old)) lines.new frames.new result }
+    ensures { Steps (want_step token.kind token (plain_lines lines.old) (plain_frames frames.old))
+        lines.new frames.new result }
 {
     match token.kind {
         Kind::Number(_) | Kind::Wide(true) | Kind::Text(_) | Kind::Name(_) => Ok(Some(leaf_of(
@@ -175,7 +175,8 @@ fn operator(
     operand: Measured,
     token: Token,
 ) -> Result<Option<Measured>, Stop>
-    ensures { Steps (Some (at_binary (map plain_line lines.now) token (close (strength token.kind) (plain_frames frames.old) (plain_measured operand)))) lines.now frames.new result }
+    ensures { let left = close (strength token.kind) (plain_frames frames.old) (plain_measured operand) in
+        Steps (Some (at_binary (plain_lines lines.now) token left)) lines.now frames.new result }
 {
     let left = close_all(alloc, frames, strength_of(token.kind), operand)?;
     frames.push(Frame::Binary(left, token))?;
@@ -190,7 +191,7 @@ fn comma(
     operand: Measured,
     token: Token,
 ) -> Result<Option<Measured>, Stop>
-    ensures { Steps (at_comma (map plain_line lines.now) token (close 0 (plain_frames frames.old) (plain_measured operand))) lines.now frames.new result }
+    ensures { Steps (at_comma (plain_lines lines.now) token (closed frames.old operand)) lines.now frames.new result }
 {
     let operand = close_all(alloc, frames, 0, operand)?;
     match frames.pop() {
@@ -211,7 +212,7 @@ fn closing(
     operand: Measured,
     token: Token,
 ) -> Result<Option<Measured>, Stop>
-    ensures { Steps (at_close (map plain_line lines.now) token (close 0 (plain_frames frames.old) (plain_measured operand))) lines.now frames.new result }
+    ensures { Steps (at_close (plain_lines lines.now) token (closed frames.old operand)) lines.now frames.new result }
 {
     let operand = close_all(alloc, frames, 0, operand)?;
     match frames.pop() {
@@ -229,7 +230,7 @@ fn closing(
 
 /// The expression of a line that ends behind an operand: none where a construct is still open.
 fn line_end(alloc: Global, frames: &mut Stack<Frame>, operand: Measured) -> Result<Measured, Stop>
-    ensures { EndsLine (line_of (close 0 (plain_frames frames.old) (plain_measured operand))) frames.new result }
+    ensures { EndsLine (line_of (closed frames.old operand)) frames.new result }
 {
     let operand = close_all(alloc, frames, 0, operand)?;
     match frames.top() {
@@ -246,7 +247,8 @@ fn separator(
     operand: Measured,
     token: Token,
 ) -> Result<Option<Measured>, Stop>
-    ensures { Steps (at_end (map plain_line lines.old) token (line_of (close 0 (plain_frames frames.old) (plain_measured operand)))) lines.new frames.new result }
+    ensures { Steps (at_end (plain_lines lines.old) token (line_of (closed frames.old operand)))
+        lines.new frames.new result }
 {
     let line = line_end(alloc, frames, operand)?;
     lines.push(Line {
@@ -264,7 +266,8 @@ fn have(
     operand: Measured,
     token: Token,
 ) -> Result<Option<Measured>, Stop>
-    ensures { Steps (have_step token.kind token (map plain_line lines.old) (plain_frames frames.old) (plain_measured operand)) lines.new frames.new result }
+    ensures { Steps (have_step token.kind token (plain_lines lines.old) (plain_frames frames.old) (plain_measured operand))
+        lines.new frames.new result }
 {
     match token.kind {
         Kind::Plus | Kind::Minus | Kind::Star | Kind::Divide | Kind::Percent => operator(
@@ -289,7 +292,8 @@ pub fn next(
     operand: Option<Measured>,
     token: Token,
 ) -> Result<Option<Measured>, Stop>
-    ensures { Steps (step_at token (map plain_line lines.old) (plain_frames frames.old) (option_map plain_measured operand)) lines.new frames.new result }
+    ensures { let read = option_map plain_measured operand in
+        Steps (step_at token (plain_lines lines.old) (plain_frames frames.old) read) lines.new frames.new result }
 {
     match operand {
         None => want(alloc, lines, frames, token),
@@ -304,7 +308,8 @@ pub fn end(
     frames: &mut Stack<Frame>,
     operand: Option<Measured>,
 ) -> Result<Block, Stop>
-    ensures { Ends (finish_at (map plain_line lines) (plain_frames frames.old) (option_map plain_measured operand)) result }
+    ensures { let read = option_map plain_measured operand in
+        Ends (finish_at (plain_lines lines) (plain_frames frames.old) read) result }
 {
     match operand {
         None => match frames.top() {

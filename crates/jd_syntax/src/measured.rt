@@ -14,7 +14,8 @@ pub struct Measured {
     ghost measured: { nesting ≡ min (height (plain expr)) 255 },
 }
 
-/// Expressions with a comma behind each, and the deepest nesting among them, with 255 for more than that.
+/// Expressions with a comma behind each, and the deepest nesting among them, with 255 for more than
+/// that.
 #[derive(Drop)]
 pub struct Arguments {
     pub items: Items<Item>,

@@ -4,7 +4,7 @@ ghost use Rattle.std.specs.Str.{IsUtf8};
 ghost use Rattle.jd_syntax.specs.Grammar as grammar;
 ghost use Rattle.jd_syntax.specs.Plain.{plain_script};
 ghost use Rattle.jd_syntax.specs.Names.{texts_of};
-ghost use Rattle.jd_syntax.specs.Spelling.{max_script, Spells};
+ghost use Rattle.jd_syntax.specs.Spelling.{max_script, Spells, IsCut};
 ghost use Rattle.jd_syntax.specs.Answers.{Parses, Refuses};
 ghost use Rattle.jd_syntax.specs.Code.{ReadsScript};
 
@@ -113,6 +113,9 @@ pub fn parse(alloc: Global, bytes: &[u8]) -> Result<Script, ParseFault>
     ensures found { IfOk result (λ s. Spells bytes.now (plain_script s)) }
     // What is spelled so is read, unless memory runs out.
     ensures only { (s : grammar.Script) → Spells bytes.now s → Parses result s }
+    // Its tokens are cut from the bytes: each is the longest at its place, and blanks and comments
+    // stand between.
+    ensures cut { IfOk result (λ s. IsCut bytes.now (plain_script s)) }
     // A refusal has its cause.
     ensures refused { IfErr result (Refuses bytes.now) }
 {

@@ -106,7 +106,8 @@ fn is_single(items: &[Item]) -> bool
 /// Whether the parentheses hold one sum.
 #[cycle(sums)]
 fn is_group(listing: &Listing) -> bool
-    ensures { result ≡ is_group (plain_listing listing.now).most (plain_listing listing.now).last }
+    ensures { let inside = plain_listing listing.now in
+        result ≡ is_group inside.most inside.last }
 {
     if is_none(listing.items.as_slice()) {
         is_last_sum(&listing.last)
@@ -118,7 +119,8 @@ fn is_group(listing: &Listing) -> bool
 /// Whether what is called takes these arguments.
 #[cycle(sums)]
 fn is_application(listing: &Listing, callee: &Expr) -> bool
-    ensures { result ≡ is_application (plain callee.now) (plain_listing listing.now).most (plain_listing listing.now).last }
+    ensures { let inside = plain_listing listing.now in
+        result ≡ is_application (plain callee.now) inside.most inside.last }
 {
     if is_bound_leaf(callee) {
         is_int(listing)
@@ -130,7 +132,8 @@ fn is_application(listing: &Listing, callee: &Expr) -> bool
 }
 
 fn is_int(listing: &Listing) -> bool
-    ensures { result ≡ is_none (plain_listing listing.now).most && is_last_leaf_of is_int (plain_listing listing.now).last }
+    ensures { let inside = plain_listing listing.now in
+        result ≡ is_none inside.most && is_last_leaf_of is_int inside.last }
 {
     if is_none(listing.items.as_slice()) {
         is_last_int(&listing.last)
@@ -141,7 +144,8 @@ fn is_int(listing: &Listing) -> bool
 
 #[cycle(sums)]
 fn are_two(listing: &Listing) -> bool
-    ensures { result ≡ is_single (plain_listing listing.now).most && (are_sums (plain_listing listing.now).most && is_last_sum (plain_listing listing.now).last) }
+    ensures { let inside = plain_listing listing.now in
+        result ≡ is_single inside.most && (are_sums inside.most && is_last_sum inside.last) }
 {
     if is_single(listing.items.as_slice()) {
         if are_sums(listing.items.as_slice()) {
@@ -200,7 +204,8 @@ fn are_arguments(items: &[Item]) -> bool
 }
 
 fn are_printed(listing: &Listing) -> bool
-    ensures { result ≡ are_printed (plain_listing listing.now).most (plain_listing listing.now).last }
+    ensures { let inside = plain_listing listing.now in
+        result ≡ are_printed inside.most inside.last }
 {
     match &listing.last {
         None => is_none(listing.items.as_slice()),
