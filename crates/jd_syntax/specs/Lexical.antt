@@ -1,5 +1,5 @@
 -- The tokens of a script's bytes, each where it stands.
-use Rattle.std.specs.Prelude.{ℕ, zero, suc, ◌≤◌, ◌+◌, ◌-◌, ◌*◌, ◌^◌, Bool, true, false, not, ◌&&◌, ◌||◌, List, [], ◌∷◌, ◌++◌, length, take, drop, Option, Some, None, option_map, pos, nat_le, nat_lt, ◌==◌, if◌then◌else◌}
+use Rattle.std.specs.Prelude.{ℕ, zero, suc, ◌≤◌, ◌+◌, ◌-◌, ◌*◌, ◌^◌, Bool, true, false, not, ◌&&◌, ◌||◌, List, [], ◌∷◌, ◌++◌, length, take, drop, Option, Some, None, option_map, nat_le, nat_lt, ◌==◌, if◌then◌else◌}
 use Rattle.std.specs.List.{prefix_len}
 use Rattle.jd_grammar.specs.declared.token.Token.{Token}
 use Rattle.jd_grammar.specs.declared.token.Kind.{Kind}
@@ -43,7 +43,7 @@ abbrev pub wide : ℕ
 wide = 2 ^ 63 + 1
 
 abbrev pub number_kind : ℕ → Kind
-number_kind v = if nat_lt v (2 ^ 63) then kind.Number (pos v) else kind.Wide (v == 2 ^ 63)
+number_kind v = if nat_lt v (2 ^ 63) then kind.Number v else kind.Wide (v == 2 ^ 63)
 
 -- how many bytes of a name stand there: letters, digits and `_`, and one `!` where no `=` follows
 abbrev pub name_len : List ℕ → ℕ

@@ -211,7 +211,7 @@ fn number_kind(value: u64) -> Kind
     ensures { result ≡ number_kind value }
 {
     if value < 1 << 63 {
-        Kind::Number(value as i64)
+        Kind::Number(value)
     } else {
         Kind::Wide(value == 1 << 63)
     }
