@@ -1,8 +1,7 @@
 -- A script that was read up to one byte past the limit.
-use Rattle.std.proofs.Common.{◌≡◌, ℕ, suc, ◌+◌, ◌<◌, ◌≤◌, List, length, take, drop, refl, sym, ◌∙◌, ap, subst, arith, Option, Some, None, IfSome, IsSome, Result, Ok, Err, length-take, min}
+use Rattle.std.proofs.Common.{◌≡◌, ℕ, ◌+◌, ◌<◌, ◌≤◌, List, length, take, ◌∙◌, ap, subst, arith, Option, Some, None, IfSome, Result, Ok, Err, length-take}
 use Rattle.std.proofs.lemmas.Grind.{common_steps}
 use Rattle.jd_source.specs.Content.{content_of, Opens, TakesAtMost}
-use Rattle.jd_syntax.specs.Grammar.{Script}
 use Rattle.jd_syntax.specs.Spelling.{Spells}
 use Rattle.jd_syntax.specs.Answers.{RefusesAs}
 use Rattle.jd_syntax.specs.declared.parsing.TheConstants.{MAX_SCRIPT}
@@ -11,7 +10,7 @@ use Rattle.jd_syntax.specs.declared.parsing.ParseKind.TheVariants as kind
 use Rattle.jd_engine.specs.declared.lower.Line.{Line}
 use Rattle.jd_engine.specs.declared.status.Ending.{Ending}
 use Rattle.jd_engine.specs.declared.status.Ending.TheVariants as ending
-use Rattle.jd_engine.specs.Endings.{Loads, NotLoaded}
+use Rattle.jd_engine.specs.Endings.{Loads}
 
 module _ (m : ℕ) (content : List ℕ) where
   whole : length (take (m + 1) content) ≤ m → take (m + 1) content ≡ content

@@ -1,11 +1,10 @@
 -- Lowering item by item and line by line.
-use Rattle.std.proofs.Common.{◌≡◌, ℕ, ◌+◌, ◌<◌, List, [], ◌∷◌, ◌++◌, map, drop, get_or, length, Option, Some, None, option_map, refl, sym, ap, ◌∙◌, append_assoc, append-nil, add-one}
+use Rattle.std.proofs.Common.{◌≡◌, ℕ, ◌+◌, ◌<◌, List, [], ◌∷◌, ◌++◌, map, drop, get_or, length, Option, Some, None, option_map, refl, sym, ap, ◌∙◌, append_assoc, add-one}
 use Rattle.std.proofs.Math.Seq.{drop-cons}
 use Rattle.jd_value.specs.declared.expr.Expr.{Expr}
 use Rattle.jd_grammar.specs.declared.token.Token.{Token}
-use Rattle.jd_syntax.specs.declared.tree.Expr.{Expr as Tree}
-use Rattle.jd_syntax.specs.declared.tree.Item.{Item, out-Item, roll-Item, fold-roll-Item}
-use Rattle.jd_syntax.specs.Grammar.{Syntax, Commas}
+use Rattle.jd_syntax.specs.declared.tree.Item.{Item, out-Item, fold-roll-Item}
+use Rattle.jd_syntax.specs.Grammar.{Syntax}
 use Rattle.jd_syntax.specs.Plain.{Inside, plain, plain_item, commas, plain_at, plain_item_at, plain_listing_at}
 use Rattle.jd_engine.specs.Lowering.{expr_of, exprs_of, cons}
 

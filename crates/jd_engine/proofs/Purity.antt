@@ -1,6 +1,7 @@
 -- The lines of a pure script are always lowered.
-use Rattle.std.proofs.Common.{◌≡◌, ℕ, ℤ, ◌≤◌, Bool, true, false, ◌&&◌, ◌||◌, IsTrue, List, [], ◌∷◌, Option, Some, None, option_map, refl, sym, ap, ◌∙◌, if◌then◌else◌, slice_get, arith, ◌+◌}
+use Rattle.std.proofs.Common.{◌≡◌, ℕ, ◌≤◌, Bool, true, false, ◌&&◌, ◌||◌, List, [], ◌∷◌, Option, Some, None, option_map, refl, sym, ap, ◌∙◌, if◌then◌else◌, slice_get, arith, ◌+◌}
 use Rattle.std.specs.Prelude.{not}
+use Rattle.std.specs.Int.{w64, cast_signed}
 use Rattle.jd_value.specs.declared.expr.Expr.{Expr}
 use Rattle.jd_value.specs.declared.expr.Expr.TheVariants as e
 use Rattle.jd_value.specs.declared.builtin.Builtin.{Builtin}
@@ -9,8 +10,8 @@ use Rattle.jd_grammar.specs.declared.token.Kind.{Kind}
 use Rattle.jd_grammar.specs.declared.token.Kind.TheVariants as kind
 use Rattle.jd_grammar.specs.declared.token.Name.TheVariants as name
 use Rattle.jd_grammar.specs.declared.token.Word.TheVariants as word
-use Rattle.jd_syntax.specs.Grammar.{Syntax, leaf, unary, binary, listed, Commas, none, more, Maybe, nothing, just, Line as Written, Block, Script, strength, IsAt, AreAt, IsAtMaybe, IsLine, AreLines, IsBlock}
-use Rattle.jd_syntax.specs.Pure.{is_number, is_text, is_bound, is_division, is_wide_least, is_least, is_leaf_of, is_none, is_single, is_sum, are_sums, is_last_sum, is_argument, are_arguments, are_printed, is_print, is_println, is_pure_line, are_pure_lines, is_pure, is_last_leaf_of, is_int}
+use Rattle.jd_syntax.specs.Grammar.{Syntax, leaf, unary, binary, listed, Commas, none, more, Maybe, nothing, just, Line as Written, Script, strength, IsAt, AreAt, IsAtMaybe, IsLine, AreLines, IsBlock}
+use Rattle.jd_syntax.specs.Pure.{is_number, is_text, is_bound, is_division, is_wide_least, is_least, is_leaf_of, is_sum, is_last_sum, is_argument, are_arguments, are_printed, is_print, is_println, is_pure_line, are_pure_lines, is_pure, is_last_leaf_of, is_int}
 use Rattle.jd_engine.specs.declared.lower.Line.{Line}
 use Rattle.jd_engine.specs.Lowering.{least, greatest, text, operator, function, bound, leaf_expr, of_one, of_two, of_pair, cons, grouped, called, called_by, head_kind, expr_of, exprs_of, last_of, line, line_of, line_at, cons_line, lines_of, lowered}
 
@@ -27,7 +28,7 @@ abbrev Holds : {A : Type 0} → Option A → Type 0
 Holds {A} o = (x : A) × (o ≡ Some x)
 
 number_holds : (texts : List (List ℕ)) (k : Kind) → is_number k ≡ true → Holds (leaf_expr texts k)
-number_holds texts (kind.Number n) h = (e.Int n, refl)
+number_holds texts (kind.Number n) h = (e.Int (cast_signed w64 n), refl)
 number_holds texts _ h = cc
 
 wide_holds : (texts : List (List ℕ)) (k : Kind) → is_wide_least k ≡ true → Holds (leaf_expr texts k)

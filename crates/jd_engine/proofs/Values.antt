@@ -1,8 +1,7 @@
 -- What a line prints, from its values.
-use Rattle.std.proofs.Common.{◌≡◌, ℕ, List, [], ◌∷◌, ◌++◌, Result, Ok, Err, refl, ap, sym, ◌∙◌}
-use Rattle.jd_value.specs.declared.fault.Fault.{Fault}
+use Rattle.std.proofs.Common.{◌≡◌, ℕ, List, [], ◌∷◌, ◌++◌, Ok, Err, ap, sym, ◌∙◌}
 use Rattle.jd_value.specs.declared.value.Value.{Value}
-use Rattle.jd_expr.specs.Action.{Ran, Done, Failed, Gives}
+use Rattle.jd_expr.specs.Action.{Done, Gives}
 use Rattle.jd_expr.specs.declared.stop.Stop.{Stop}
 use Rattle.jd_expr.specs.declared.stop.Stop.TheVariants as stop
 use Rattle.jd_engine.specs.declared.lower.Line.{Line}

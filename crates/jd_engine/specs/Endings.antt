@@ -1,16 +1,14 @@
 -- How a run may end, and what it leaves.
-use Rattle.std.specs.Prelude.{◌≡◌, ◌⊎◌, ℕ, ◌<◌, ◌≤◌, ◌+◌, List, [], ◌∷◌, ◌++◌, length, take, Option, Some, None, String, string_bytes, codes, decimal, if◌then◌else◌, Result, Ok, Err, IfSome, ⊤}
+use Rattle.std.specs.Prelude.{◌≡◌, ◌⊎◌, ℕ, ◌≤◌, List, [], ◌∷◌, ◌++◌, Option, Some, None, String, string_bytes, codes, decimal, if◌then◌else◌, Result, Ok, Err, ⊤}
 use Rattle.std.specs.Str.{bytes_eq}
 use Rattle.std.specs.declared.alloc.Global.{Global}
 use Rattle.std.specs.Io.KnownBytes.{Appends, Keeps}
 use Rattle.jd_source.specs.Counts.{Rose}
 use Rattle.jd_source.specs.Content.{content_of, AppendsPart, AppendsFront}
-use Rattle.jd_value.specs.declared.fault.Fault.{Fault}
 use Rattle.jd_value.specs.Shown.{shown_fault}
 use Rattle.jd_syntax.specs.Grammar.{Script}
 use Rattle.jd_syntax.specs.Spelling.{Spells}
 use Rattle.jd_syntax.specs.Answers.{RefusesAs}
-use Rattle.jd_syntax.specs.declared.parsing.TheConstants.{MAX_SCRIPT}
 use Rattle.jd_syntax.specs.declared.parsing.ParseKind.{ParseKind}
 use Rattle.jd_syntax.specs.declared.parsing.ParseKind.TheVariants as kind
 use Rattle.jd_engine.specs.declared.lower.Line.{Line}

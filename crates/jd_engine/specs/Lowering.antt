@@ -1,5 +1,6 @@
 -- The expressions that the lines of a pure script print.
-use Rattle.std.specs.Prelude.{◌≡◌, ℕ, ℤ, pos, negsuc, Bool, true, false, if◌then◌else◌, List, [], ◌∷◌, ◌++◌, map, Option, Some, None, Result, Ok, Err, slice_get, option_map}
+use Rattle.std.specs.Prelude.{◌≡◌, ℕ, ℤ, pos, negsuc, if◌then◌else◌, List, [], ◌∷◌, Option, Some, None, Result, Ok, Err, slice_get, option_map}
+use Rattle.std.specs.Int.{w64, cast_signed}
 use Rattle.jd_value.specs.declared.expr.Expr.{Expr}
 use Rattle.jd_value.specs.declared.expr.Expr.TheVariants as e
 use Rattle.jd_value.specs.declared.builtin.Builtin.{Builtin}
@@ -46,9 +47,9 @@ abbrev pub text : Option (List ℕ) → List ℕ
 text None = []
 text (Some bytes) = bytes
 
--- A number or a text. 2^63 stands for the least number, whose negation is itself.
+-- A number or a text. A number that a script has is below 2^63, and so is itself as a signed number. 2^63 stands for the least number, whose negation is itself.
 abbrev pub leaf_expr : List (List ℕ) → Kind → Option Expr
-leaf_expr texts (kind.Number n) = Some (e.Int n)
+leaf_expr texts (kind.Number n) = Some (e.Int (cast_signed w64 n))
 leaf_expr texts (kind.Wide is_least) = if is_least then Some (e.Int least) else None
 leaf_expr texts (kind.Text n) = Some (e.Text (text (slice_get texts n)))
 leaf_expr texts _ = None

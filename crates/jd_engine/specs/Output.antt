@@ -3,7 +3,7 @@ use Rattle.std.specs.Prelude.{◌≡◌, ℕ, List, [], ◌∷◌, ◌++◌, Opt
 use Rattle.jd_value.specs.declared.fault.Fault.{Fault}
 use Rattle.jd_value.specs.declared.value.Value.{Value}
 use Rattle.jd_value.specs.Shown.{shown}
-use Rattle.jd_expr.specs.Action.{Action, Ran, Done, Failed, and_then, ◌>>=◌, ◌>>◌, unit}
+use Rattle.jd_expr.specs.Action.{Action, Ran, Done, Failed, ◌>>◌, unit}
 use Rattle.jd_expr.specs.Meaning.{all_evaluated}
 use Rattle.jd_expr.specs.declared.stop.Stop.{Stop}
 use Rattle.jd_expr.specs.declared.stop.Stop.TheVariants as stop

@@ -88,7 +88,7 @@ fn lower_leaf(alloc: Global, texts: &[Text], kind: Kind) -> Result<Expr, LowerFa
     ensures { Lowers (leaf_expr texts.now kind) result }
 {
     match kind {
-        Kind::Number(n) => Ok(Expr::Int(n)),
+        Kind::Number(n) => Ok(Expr::Int(n.cast_signed())),
         Kind::Wide(true) => Ok(Expr::Int(i64::MIN)),
         Kind::Text(n) => {
             let text = Txt::from_bytes(alloc, text_at(texts, n as usize))?;

@@ -1,5 +1,5 @@
 -- A number of levels that is no less than the units plays no part.
-use Rattle.std.proofs.Common.{◌≡◌, ℕ, zero, suc, ◌-◌, ◌+◌, ◌<◌, ◌≤◌, ◌==◌, Bool, true, false, if◌then◌else◌, List, [], ◌∷◌, ◌++◌, Ok, Err, refl, sym, ap, ◌∙◌, subst, arith}
+use Rattle.std.proofs.Common.{◌≡◌, ℕ, zero, suc, ◌-◌, ◌<◌, ◌≤◌, ◌==◌, true, false, if◌then◌else◌, List, [], ◌∷◌, ◌++◌, Ok, Err, refl, sym, ap, ◌∙◌, subst, arith}
 use Rattle.std.proofs.lemmas.Grind.{common_steps}
 use Rattle.std.specs.Prelude.{Result}
 use Rattle.jd_value.specs.declared.fault.Fault.{Fault}
@@ -8,7 +8,7 @@ use Rattle.jd_value.specs.declared.value.Value.{Value}
 use Rattle.jd_value.specs.declared.builtin.Builtin.{Builtin}
 use Rattle.jd_value.specs.declared.expr.Expr.{Expr, out-Expr}
 use Rattle.jd_value.specs.declared.expr.Expr.TheOpen.{Expr-F}
-use Rattle.jd_expr.specs.Action.{Action, Ran, Done, Failed, and_then, ◌>>=◌, ◌>>◌, pure, fail, lift, lift_to, unit}
+use Rattle.jd_expr.specs.Action.{Action, Ran, Done, Failed, and_then, lift, lift_to, unit}
 use Rattle.jd_expr.specs.Arithmetic.{builtin}
 use Rattle.jd_expr.specs.Meaning.{Variables, Meaning, meaning, each_from, each, applied, node_at, node}
 

@@ -1,10 +1,10 @@
 -- Builtin functions of whole numbers of 64 bits.
-use Rattle.std.specs.Prelude.{ℕ, ℤ, pos, negsuc, ◌+ℤ◌, Bool, true, false, ◌&&◌, ◌||◌, List, [], ◌∷◌, Result, Ok, Err, if◌then◌else◌, int_lt, int_div, int_rem}
+use Rattle.std.specs.Prelude.{ℤ, pos, negsuc, ◌+ℤ◌, Bool, ◌&&◌, ◌||◌, List, [], ◌∷◌, Result, Ok, Err, if◌then◌else◌, int_lt, int_div, int_rem}
 use Rattle.std.specs.Int.{w64, int_wrapping_add, int_wrapping_sub, int_wrapping_mul, int_wrapping_neg}
 use Rattle.std.specs.Ordering.{int_eq}
 use Rattle.std.proofs.Math.Bool.{beq}
 use Rattle.jd_value.specs.declared.value.Value.{Value}
-use Rattle.jd_value.specs.declared.value.Value.TheVariants.{Int, Text}
+use Rattle.jd_value.specs.declared.value.Value.TheVariants.{Int}
 use Rattle.jd_value.specs.declared.fault.Fault.{Fault}
 use Rattle.jd_value.specs.declared.fault.Fault.TheVariants.{Divide, BadType}
 use Rattle.jd_value.specs.declared.builtin.Builtin.{Builtin}

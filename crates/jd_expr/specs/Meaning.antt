@@ -1,5 +1,5 @@
 -- What expressions mean: their values or faults, and the units that are left.
-use Rattle.std.specs.Prelude.{◌≡◌, ℕ, zero, suc, List, [], ◌∷◌, ◌++◌}
+use Rattle.std.specs.Prelude.{ℕ, zero, suc, List, [], ◌∷◌, ◌++◌}
 use Rattle.jd_value.specs.declared.fault.Fault.TheVariants as fault
 use Rattle.jd_value.specs.declared.value.Value.{Value}
 use Rattle.jd_value.specs.declared.value.Value.TheVariants.{Int, Text}
@@ -7,7 +7,7 @@ use Rattle.jd_value.specs.declared.builtin.Builtin.{Builtin}
 use Rattle.jd_value.specs.declared.expr.Expr.{Expr, out-Expr}
 use Rattle.jd_value.specs.declared.expr.Expr.TheOpen.{Expr-F}
 use Rattle.jd_expr.specs.declared.env.Variable.{Variable}
-use Rattle.jd_expr.specs.Action.{Action, Ran, Done, Failed, and_then, ◌>>=◌, ◌>>◌, pure, fail, lift, unit}
+use Rattle.jd_expr.specs.Action.{Action, ◌>>=◌, ◌>>◌, pure, fail, lift, unit}
 use Rattle.jd_expr.specs.Arithmetic.{builtin}
 
 -- The variables that have a value.

@@ -1,5 +1,5 @@
 -- A function value that means the level below.
-use Rattle.std.specs.Prelude.{ℕ, List, Result}
+use Rattle.std.specs.Prelude.{ℕ, Result}
 use Rattle.std.specs.declared.alloc.Global.{Global}
 use denote.Ref.{Bor, MutBor}
 use Rattle.jd_value.specs.declared.value.Value.{Value}

@@ -1,4 +1,4 @@
-use Rattle.std.proofs.Common.{subst, ◌+◌, take, ◌∙◌, sym}
+use Rattle.std.proofs.Common.{subst, ◌+◌, ◌∙◌}
 use Rattle.jd_syntax.specs.declared.parsing.TheConstants.{MAX_SCRIPT}
 use Rattle.jd_engine.specs.Endings.{Loads}
 use Rattle.jd_engine.proofs.Contents.{loads_whole, told_bytes}

@@ -1,6 +1,4 @@
-use Rattle.std.proofs.Common.{◌≡◌, None, Err, ap}
 use Rattle.jd_syntax.specs.Plain.{plain_script}
-use Rattle.jd_engine.specs.Lowering.{lowered, Lowers}
 use Rattle.jd_engine.proofs.Purity.{never_refused}
 use Rattle.jd_engine.proofs.load.lowered.Goals as goal
 

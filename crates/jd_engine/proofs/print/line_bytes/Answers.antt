@@ -1,4 +1,4 @@
-use Rattle.std.proofs.Common.{◌≡◌, ◌≤◌, ◌++◌, ◌∷◌, [], ◌∙◌, sym, ap, Ok, drop, length, arith, append-nil}
+use Rattle.std.proofs.Common.{◌≡◌, ◌++◌, ◌∷◌, [], ◌∙◌, sym, ap, Ok, arith, append-nil}
 use Rattle.std.proofs.lemmas.List.{drop_all}
 use Rattle.jd_engine.specs.Output.{shown_all}
 use Rattle.jd_engine.proofs.Values.{text_done, text_stopped}

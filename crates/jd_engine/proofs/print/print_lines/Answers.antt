@@ -1,5 +1,5 @@
-use Rattle.std.proofs.Common.{◌≡◌, ◌∙◌, ap, ◌++◌, drop, ◌+◌, Ok, refl, sym, arith}
-use Rattle.jd_engine.specs.Output.{line_text, text_of, fault_of}
+use Rattle.std.proofs.Common.{◌∙◌, ap, ◌++◌, Ok, arith}
+use Rattle.jd_engine.specs.Output.{text_of}
 use Rattle.jd_engine.proofs.Lines.{text_at, fault_at, front_part, next_part, next_front}
 use Rattle.jd_engine.proofs.print.print_lines.Goals as goal
 

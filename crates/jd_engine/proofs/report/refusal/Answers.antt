@@ -1,4 +1,3 @@
-use Rattle.std.proofs.Common.{◌∙◌}
 use Rattle.jd_engine.proofs.report.refusal.Goals as goal
 
 pub returns-clause-ok : goal.returns-clause-ok

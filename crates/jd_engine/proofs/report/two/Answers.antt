@@ -1,4 +1,4 @@
-use Rattle.jd_engine.proofs.Pieces.{errs_then, oks_then}
+use Rattle.jd_engine.proofs.Pieces.{errs_then}
 use Rattle.jd_engine.proofs.report.two.Goals as goal
 
 pub returns-clause-err : goal.returns-clause-err

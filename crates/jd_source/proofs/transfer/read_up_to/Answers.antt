@@ -1,4 +1,4 @@
-use Rattle.std.proofs.Common.{◌≡◌, ◌≤◌, ◌++◌, ◌+◌, length, take, arith, rules, length-append, length-take}
+use Rattle.std.proofs.Common.{◌≤◌, ◌++◌, ◌+◌, length, take, arith, rules, length-append, length-take}
 use Rattle.std.proofs.lemmas.Grind.{common_steps}
 use Rattle.jd_source.proofs.Told.{consumes_more}
 use Rattle.jd_source.proofs.transfer.read_up_to.Goals as goal
