@@ -74,18 +74,21 @@ holds_shorter size pieces index below some behind =
 -- two pieces that hold one index are the same
 pub held_once : (size pieces i j index : ℕ) → HoldsIndex size pieces i index → HoldsIndex size pieces j index → i ≡ j
 held_once size pieces i j index held again = elim (cases_order i j) [
-    inl same ↦ same
+  | inl same ↦ same
   | inr apart ↦ elim apart [
-      inl before ↦ omega (arith, follows size pieces i j before, held.below, again.from)
-    | inr behind ↦ omega (arith, follows size pieces j i behind, held.from, again.below) ] ]
+    | inl before ↦ omega (arith, follows size pieces i j before, held.below, again.from)
+    | inr behind ↦ omega (arith, follows size pieces j i behind, held.from, again.below)
+  ]
+]
 
 -- what piece holds an index
 pub some_piece_holds : (size pieces index : ℕ) → 0 < pieces → index < size → (piece : ℕ) × (piece < pieces) × HoldsIndex size pieces piece index
 some_piece_holds size pieces index some below =
     let small = mod-lt size some in
     elim (cases_lt index ((size % pieces) * (size / pieces) + size % pieces)) [
-      inl early ↦ (index / (size / pieces + 1), omega (arith, held_by_longer (size / pieces) (size % pieces) index early), holds_longer size pieces index early)
-    | inr late ↦ (_, later_piece_below size pieces index below some late, holds_shorter size pieces index below some late) ]
+      | inl early ↦ (index / (size / pieces + 1), omega (arith, held_by_longer (size / pieces) (size % pieces) index early), holds_longer size pieces index early)
+      | inr late ↦ (_, later_piece_below size pieces index below some late, holds_shorter size pieces index below some late)
+    ]
 
 pub is_cut : (size pieces : ℕ) → 0 < pieces → IsCut size pieces
 is_cut size pieces some = record {

@@ -1,4 +1,10 @@
 //! Arrays of whole numbers: cuts, cells, slices and folds.
 #![tactic(auto)]
 
-pub mod cut;
+mod fault;
+mod index;
+mod pieces;
+
+pub use fault::ArrayFault;
+pub use index::{at, is_inside, place_in};
+pub use pieces::{Piece, cut, cut_is_partition, piece_with};

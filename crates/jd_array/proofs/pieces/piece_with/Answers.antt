@@ -1,6 +1,6 @@
 use Rattle.std.proofs.Common.{arith}
 use Rattle.jd_array.proofs.Cuts.{holds_longer, holds_shorter, later_piece_below}
-use Rattle.jd_array.proofs.cut.piece_with.Goals as goal
+use Rattle.jd_array.proofs.pieces.piece_with.Goals as goal
 
 pub returns-then-index-in_longer-clause-holds : goal.returns-then-index-in_longer-clause-holds
 returns-then-index-in_longer-clause-holds c = holds_longer c.args.size c.args.pieces c.args.index c.if-index-in_longer.true

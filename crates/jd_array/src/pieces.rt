@@ -50,5 +50,4 @@ pub fn piece_with(size: u64, pieces: u32, index: u64) -> u32
 pub fn cut_is_partition(_size: u64, pieces: u32)
     requires { 0 < pieces }
     ensures { IsCut _size pieces }
-{
-}
+{}
