@@ -50,7 +50,7 @@ product_drop [] (i ∷ index) (suc k) inside = absurd inside
 product_drop (size ∷ dims) [] (suc k) inside = absurd inside
 
 -- one axis more from the back
-drop_before : {X : Type 0} → (xs : List X) (a : ℕ) (d : X) → 0 < a → a ≤ length xs → drop (a - 1) xs ≡ get_or xs (a - 1) d ∷ drop a xs
+pub drop_before : {X : Type 0} → (xs : List X) (a : ℕ) (d : X) → 0 < a → a ≤ length xs → drop (a - 1) xs ≡ get_or xs (a - 1) d ∷ drop a xs
 drop_before xs a d some below =
     drop_more xs (a - 1) d (omega arith) ∙ ap (λ (n : ℕ). get_or xs (a - 1) d ∷ drop n xs) (omega arith)
 

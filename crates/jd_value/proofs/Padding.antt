@@ -11,18 +11,7 @@ lie_in (a ∷ b ∷ []) sizes valid e = subst (λ (s : List ℕ). LieIn s 2) (sy
 lie_in (a ∷ b ∷ c ∷ []) sizes valid e = subst (λ (s : List ℕ). LieIn s 3) (sym e) (record { dims = valid; padding = refl; counted = refl })
 lie_in (a ∷ b ∷ c ∷ d ∷ rest) sizes valid e = absurd (omega (arith, valid.few))
 
--- one more length in its place
-pub set_next : (sizes : List ℕ) (i size : ℕ) → i < length sizes → i < 3 → size ≡ get_or sizes i 0 →
-    set (take i sizes ++ replicate (3 - i) 0) i size ≡ take (i + 1) sizes ++ replicate (3 - (i + 1)) 0
-set_next sizes i size below few e =
-    let room : 3 - i ≡ suc (3 - (i + 1)) = omega arith in
-    let next : set (take i sizes ++ 0 ∷ replicate (3 - (i + 1)) 0) i size ≡ take i sizes ++ size ∷ replicate (3 - (i + 1)) 0 =
-    set_at (take i sizes) 0 (replicate (3 - (i + 1)) 0) size i (length-take-le i sizes (omega arith)) in
-    ap (λ (k : ℕ). set (take i sizes ++ replicate k 0) i size) room ∙ next
-    ∙ sym (append_assoc (take i sizes) (size ∷ []) (replicate (3 - (i + 1)) 0))
-    ∙ ap (λ (front : List ℕ). front ++ replicate (3 - (i + 1)) 0)
-    (ap (λ (x : ℕ). take i sizes ++ x ∷ []) e ∙ sym (take_more sizes i 0 below))
-
+-- all lengths are in their places
 pub lie_in_whole : (dims sizes : List ℕ) (i : ℕ) → length dims ≤ i → i ≤ length dims → 1 ≤ length dims → length dims ≤ 3 →
     All (λ (size : ℕ). size ≤ 262144) (take i dims) → sizes ≡ take i dims ++ replicate (3 - i) 0 → LieIn sizes (length dims)
 lie_in_whole dims sizes i from to some few short e =
