@@ -1,3 +1,4 @@
+pub mod Apart
 pub mod Axes
 pub mod Indexes
 pub mod Located

@@ -1,6 +1,7 @@
 //! Layouts of arrays over processes.
 #![tactic(auto)]
 
+mod ids;
 mod parts;
 mod ranges;
 
