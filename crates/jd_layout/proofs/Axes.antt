@@ -21,11 +21,11 @@ lie_in (a ∷ b ∷ c ∷ d ∷ rest) spans some few e = absurd (omega (arith, f
 pub lie_in_whole : (ranges spans : List Ends) (n i : ℕ) → length ranges ≡ n → i ≡ n → 1 ≤ n → n ≤ 3 → spans ≡ take i ranges ++ replicate (3 - i) empty_range → LieIn spans n
 lie_in_whole ranges spans n i is end some few e =
     subst (λ (k : ℕ). LieIn spans k) is
-      (lie_in ranges spans (omega arith) (omega arith)
-        (e ∙ ap (λ (r : List Ends). r ++ replicate (3 - i) empty_range) (take_all i ranges (omega arith))
-           ∙ ap (λ (k : ℕ). ranges ++ replicate (3 - k) empty_range) (omega arith)))
+    (lie_in ranges spans (omega arith) (omega arith)
+    (e ∙ ap (λ (r : List Ends). r ++ replicate (3 - i) empty_range) (take_all i ranges (omega arith))
+    ∙ ap (λ (k : ℕ). ranges ++ replicate (3 - k) empty_range) (omega arith)))
 
 pub taken_whole : (ranges spans : List Ends) (n i : ℕ) → length ranges ≡ n → i ≡ n → spans ≡ take i ranges ++ replicate (3 - i) empty_range → take n spans ≡ ranges
 taken_whole ranges spans n i is end e =
     ap (λ (s : List Ends). take n s) (e ∙ ap (λ (r : List Ends). r ++ replicate (3 - i) empty_range) (take_all i ranges (omega arith)))
-        ∙ take_at ranges (replicate (3 - i) empty_range) n is
+    ∙ take_at ranges (replicate (3 - i) empty_range) n is

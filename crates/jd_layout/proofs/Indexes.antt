@@ -26,7 +26,7 @@ pub index_more : (dims index : List ℕ) (k : ℕ) → k < length dims → k < l
     IsIndex (get_or dims k 0 ∷ drop (k + 1) dims) (get_or index k 0 ∷ drop (k + 1) index)
 index_more dims index k below short valid =
     subst (λ (t : List ℕ). IsIndex (get_or dims k 0 ∷ drop (k + 1) dims) t) (drop_more index k 0 short)
-        (subst (λ (d : List ℕ). IsIndex d (drop k index)) (drop_more dims k 0 below) valid)
+    (subst (λ (d : List ℕ). IsIndex d (drop k index)) (drop_more dims k 0 below) valid)
 
 pub index_at : (dims index : List ℕ) (k : ℕ) → k < length dims → IsIndex dims index → (1 ≤ get_or index k 0) × (get_or index k 0 ≤ get_or dims k 0)
 index_at dims index k below valid =

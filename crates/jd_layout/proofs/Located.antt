@@ -67,10 +67,10 @@ pub located_before : (dims dist index : List ℕ) (a piece before part place : �
     before < piece_length (get_or dims (a - 1) 0) (get_or dist (a - 1) 0) piece →
     IsLocated (drop a dims) (drop a dist) (drop a index) part place →
     IsLocated (drop (a - 1) dims) (drop (a - 1) dist) (drop (a - 1) index) (part * get_or dist (a - 1) 0 + piece)
-        (place * piece_length (get_or dims (a - 1) 0) (get_or dist (a - 1) 0) piece + before)
+    (place * piece_length (get_or dims (a - 1) 0) (get_or dist (a - 1) 0) piece + before)
 located_before dims dist index a piece before part place some in_dims in_dist in_index least here below rest =
     rw (drop_before dims a 0 some in_dims, drop_before dist a 0 some in_dist, drop_before index a 0 some in_index)
-      (located_more _ _ _ _ _ _ piece before part place least here below rest)
+    (located_more _ _ _ _ _ _ piece before part place least here below rest)
 
 cells_before : (dims : List ℕ) (a len before place : ℕ) → 0 < a → a ≤ length dims → len ≤ get_or dims (a - 1) 0 → before < len → place < product (drop a dims) →
     place * len + before < product (drop (a - 1) dims)

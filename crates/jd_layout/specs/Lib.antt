@@ -1,3 +1,4 @@
 pub mod Blocks
 pub mod Ids
 pub mod Places
+pub mod Refused

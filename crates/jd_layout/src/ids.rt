@@ -3,13 +3,21 @@ ghost use Rattle.std.specs.Prelude.{◌≡◌, ◌&&◌, not, ℕ, IfOk, IsTrue,
 ghost use Rattle.std.specs.Ordering.{nat_cmp};
 ghost use Rattle.std.specs.List.{list_any};
 ghost use Rattle.std.specs.BTreeSet.{contains};
+ghost use Rattle.jd_layout.specs.Blocks.{AreProcs};
 ghost use Rattle.jd_layout.specs.Ids.{AreApartIn};
 
 use std::alloc::{AllocError, Global};
 use std::collections::BTreeSet;
 
+/// Whether each process is a known one and none stands twice.
+pub fn are_procs(alloc: Global, procs: &[u32], known: &[u32]) -> Result<bool, AllocError>
+    ensures { IfOk result (λ yes. IsTrue yes ↔ AreProcs procs.now known.now) }
+{
+    Ok(are_apart_in(id_set(alloc, known)?, procs))
+}
+
 /// The set of these ids.
-pub fn id_set(alloc: Global, ids: &[u32]) -> Result<BTreeSet<u32>, AllocError>
+fn id_set(alloc: Global, ids: &[u32]) -> Result<BTreeSet<u32>, AllocError>
     ensures { IfOk result (λ set. (q : ℕ) → contains nat_cmp set q ≡ list_any (nat_eq q) ids.now) }
 {
     let mut set = BTreeSet::new(alloc);
@@ -28,7 +36,7 @@ fn take_id(set: &mut BTreeSet<u32>, id: u32) -> bool
 }
 
 /// Whether each id is in the set and none stands twice.
-pub fn are_apart_in(mut set: BTreeSet<u32>, procs: &[u32]) -> bool
+fn are_apart_in(mut set: BTreeSet<u32>, procs: &[u32]) -> bool
     ensures { IsTrue result ↔ AreApartIn set procs.now }
 {
     for process in procs {

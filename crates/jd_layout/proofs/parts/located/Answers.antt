@@ -24,34 +24,34 @@ find-found-requires-clause-to c = (index_at c.args.dims.now c.args.index.now (c.
 pub overflow_mul-part : goal.overflow_mul-part
 overflow_mul-part c =
     let next = step c.args.dims.now c.args.dist.now c.args.index.now c.loop-axis.axis _ _ _ _ _ c.requires.index c.requires.lengths c.requires.counts
-        (omega arith) (omega arith) c.find-found.ensures.piece c.find-found.ensures.len c.find-found.ensures.before c.find-found.ensures.inside
-        c.find-found.ensures.whole c.loop-axis.invariant.behind c.loop-axis.invariant.fits in
+    (omega arith) (omega arith) c.find-found.ensures.piece c.find-found.ensures.len c.find-found.ensures.before c.find-found.ensures.inside
+    c.find-found.ensures.whole c.loop-axis.invariant.behind c.loop-axis.invariant.fits in
     omega (arith, next.few)
 
 pub overflow_add-part : goal.overflow_add-part
 overflow_add-part c =
     let next = step c.args.dims.now c.args.dist.now c.args.index.now c.loop-axis.axis _ _ _ _ _ c.requires.index c.requires.lengths c.requires.counts
-        (omega arith) (omega arith) c.find-found.ensures.piece c.find-found.ensures.len c.find-found.ensures.before c.find-found.ensures.inside
-        c.find-found.ensures.whole c.loop-axis.invariant.behind c.loop-axis.invariant.fits in
+    (omega arith) (omega arith) c.find-found.ensures.piece c.find-found.ensures.len c.find-found.ensures.before c.find-found.ensures.inside
+    c.find-found.ensures.whole c.loop-axis.invariant.behind c.loop-axis.invariant.fits in
     omega (arith, next.few)
 
 pub overflow_mul-place : goal.overflow_mul-place
 overflow_mul-place c =
     let next = step c.args.dims.now c.args.dist.now c.args.index.now c.loop-axis.axis _ _ _ _ _ c.requires.index c.requires.lengths c.requires.counts
-        (omega arith) (omega arith) c.find-found.ensures.piece c.find-found.ensures.len c.find-found.ensures.before c.find-found.ensures.inside
-        c.find-found.ensures.whole c.loop-axis.invariant.behind c.loop-axis.invariant.fits in
+    (omega arith) (omega arith) c.find-found.ensures.piece c.find-found.ensures.len c.find-found.ensures.before c.find-found.ensures.inside
+    c.find-found.ensures.whole c.loop-axis.invariant.behind c.loop-axis.invariant.fits in
     omega (arith, next.small)
 
 pub overflow_add-place : goal.overflow_add-place
 overflow_add-place c =
     let next = step c.args.dims.now c.args.dist.now c.args.index.now c.loop-axis.axis _ _ _ _ _ c.requires.index c.requires.lengths c.requires.counts
-        (omega arith) (omega arith) c.find-found.ensures.piece c.find-found.ensures.len c.find-found.ensures.before c.find-found.ensures.inside
-        c.find-found.ensures.whole c.loop-axis.invariant.behind c.loop-axis.invariant.fits in
+    (omega arith) (omega arith) c.find-found.ensures.piece c.find-found.ensures.len c.find-found.ensures.before c.find-found.ensures.inside
+    c.find-found.ensures.whole c.loop-axis.invariant.behind c.loop-axis.invariant.fits in
     omega (arith, next.small)
 
 pub loop-axis-preserved : goal.loop-axis-preserved
 loop-axis-preserved c =
     let next = step c.args.dims.now c.args.dist.now c.args.index.now c.loop-axis.axis _ _ _ _ _ c.requires.index c.requires.lengths c.requires.counts
-        (omega arith) (omega arith) c.find-found.ensures.piece c.find-found.ensures.len c.find-found.ensures.before c.find-found.ensures.inside
-        c.find-found.ensures.whole c.loop-axis.invariant.behind c.loop-axis.invariant.fits in
+    (omega arith) (omega arith) c.find-found.ensures.piece c.find-found.ensures.len c.find-found.ensures.before c.find-found.ensures.inside
+    c.find-found.ensures.whole c.loop-axis.invariant.behind c.loop-axis.invariant.fits in
     record { behind = next.behind; fits = next.fits }
