@@ -2,9 +2,11 @@
 #![tactic(auto)]
 
 mod fault;
+mod fold;
 mod index;
 mod pieces;
 
 pub use fault::ArrayFault;
+pub use fold::{Reducer, fold_op};
 pub use index::{at, is_inside, place_in};
 pub use pieces::{Piece, cut, cut_is_partition, piece_with};
