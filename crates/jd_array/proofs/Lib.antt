@@ -1,2 +1,4 @@
 pub mod Cuts
 pub mod Inside
+pub mod Placed
+pub mod Spans

@@ -1,5 +1,5 @@
 -- How a dimension is cut into pieces that follow one another.
-use Rattle.std.specs.Prelude.{ℕ, zero, suc, ◌+◌, ◌*◌, ◌/◌, ◌%◌, ◌<◌, ◌≤◌, ◌≡◌, nat_lt, cond}
+use Rattle.std.specs.Prelude.{ℕ, zero, suc, ◌+◌, ◌/◌, ◌%◌, ◌<◌, ◌≤◌, ◌≡◌, nat_lt, cond}
 
 -- how many indexes a piece holds: an even share, and one more for each of the first `size % pieces` pieces
 abbrev pub piece_length : ℕ → ℕ → ℕ → ℕ

@@ -44,7 +44,7 @@ pub fn is_within(i: i64, size: u64) -> bool
 }
 
 /// How far a number of an index is from the first one.
-fn offset_of(i: i64) -> u64
+pub fn offset_of(i: i64) -> u64
     requires { pos 1 ≤ℤ i }
     ensures { result ≡ offset i }
 {

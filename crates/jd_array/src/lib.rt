@@ -5,8 +5,10 @@ mod fault;
 mod fold;
 mod index;
 mod pieces;
+mod slices;
 
 pub use fault::ArrayFault;
 pub use fold::{Reducer, fold_op};
 pub use index::{at, is_inside, place_in};
 pub use pieces::{Piece, cut, cut_is_partition, piece_with};
+pub use slices::Pick;

@@ -1,6 +1,6 @@
-use Rattle.std.proofs.Common.{◌≡◌, ◌+◌, ◌-◌, ◌*◌, pos, get_or, drop, length, arith, rules, SFits, w64, ap, ◌∙◌}
+use Rattle.std.proofs.Common.{◌≡◌, ◌+◌, ◌-◌, ◌*◌, pos, get_or, arith, rules, SFits, w64, ap, ◌∙◌}
 use Rattle.std.proofs.lemmas.Int.{ints, to_z-of_z}
-use Rattle.jd_value.specs.Array.{offset, place_of}
+use Rattle.jd_value.specs.Array.{offset}
 use Rattle.jd_array.proofs.Inside.{inside_length, inside_before, place_before, place_fits}
 use Rattle.jd_array.proofs.index.place_in.Goals as goal
 

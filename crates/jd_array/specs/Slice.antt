@@ -1,0 +1,41 @@
+-- What a pick of indexes takes of an array.
+use Rattle.std.specs.Prelude.{ℕ, ℤ, pos, ◌≤ℤ◌, List, [], ◌∷◌, map, All}
+use Rattle.std.specs.List.{flat_map}
+use Rattle.jd_value.specs.Span.{span_length, span_items}
+use Rattle.jd_value.specs.Array.{Shaped, cell_at}
+use Rattle.jd_array.specs.declared.slices.Pick.{Pick}
+use Rattle.jd_array.specs.declared.slices.Pick.TheVariants.{One, Many}
+use Rattle.jd_array.specs.declared.fault.ArrayFault.{ArrayFault}
+use Rattle.jd_array.specs.declared.fault.ArrayFault.TheVariants.{Bounds, Argument, OutOfMemory}
+
+-- the numbers that a pick takes of its dimension
+abbrev pub picked : Pick → List ℤ
+picked (One i) = i ∷ []
+picked (Many span) = span_items span
+
+-- the indexes that picks take, the first dimension running fastest
+abbrev pub picked_indexes : List Pick → List (List ℤ)
+picked_indexes [] = [] ∷ []
+picked_indexes (pick ∷ picks) = flat_map (λ index. map (λ i. i ∷ index) (picked pick)) (picked_indexes picks)
+
+-- the dimensions that are left: one index drops its dimension
+abbrev pub picked_dims : List Pick → List ℕ
+picked_dims [] = []
+picked_dims (One i ∷ picks) = picked_dims picks
+picked_dims (Many span ∷ picks) = span_length span ∷ picked_dims picks
+
+-- there is a pick for each dimension, and it takes numbers of the dimension alone
+abbrev pub AreInside : List ℕ → List Pick → Type 0
+AreInside [] [] = Unit {0}
+AreInside (size ∷ dims) (pick ∷ picks) = All (λ i. (pos 1 ≤ℤ i) × (i ≤ℤ pos size)) (picked pick) × AreInside dims picks
+AreInside _ _ = ⊥
+
+-- the array of the picked cells
+abbrev pub sliced : Shaped → List Pick → Shaped
+sliced array picks = record { dims = picked_dims picks; cells = map (cell_at array) (picked_indexes picks) }
+
+-- when an array has no such slice
+abbrev pub IsUnsliced : Shaped → List Pick → ArrayFault → Type 0
+IsUnsliced array picks Bounds = ¬ AreInside array.dims picks
+IsUnsliced array picks Argument = ⊥
+IsUnsliced array picks OutOfMemory = AreInside array.dims picks
