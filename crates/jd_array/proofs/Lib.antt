@@ -1,4 +1,5 @@
 pub mod Cuts
 pub mod Inside
+pub mod Picked
 pub mod Placed
 pub mod Spans

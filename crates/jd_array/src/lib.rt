@@ -11,4 +11,4 @@ pub use fault::ArrayFault;
 pub use fold::{Reducer, fold_op};
 pub use index::{at, is_inside, place_in};
 pub use pieces::{Piece, cut, cut_is_partition, piece_with};
-pub use slices::Pick;
+pub use slices::{Pick, slice};
