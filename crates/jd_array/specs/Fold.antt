@@ -1,18 +1,19 @@
 -- Folds of cells by the seven reducing operations.
-use Rattle.std.specs.Prelude.{ℤ, pos, ◌+ℤ◌, ◌*ℤ◌, List, [], ◌∷◌, fold, Option, Some, None}
+use Rattle.std.specs.Prelude.{◌≡◌, ℤ, pos, ◌+ℤ◌, ◌*ℤ◌, List, [], ◌∷◌, fold, Option, Some, None}
 use Rattle.std.specs.Int.{w64, int_wrap, int_min, int_max, int_bit_and, int_bit_or, int_bit_xor}
 use Rattle.jd_array.specs.declared.fold.Reducer.{Reducer}
 use Rattle.jd_array.specs.declared.fold.Reducer.TheVariants.{Add, Mul, Min, Max, And, Or, Xor}
 
--- what an operation makes of two cells
+-- What an operation makes of two cells. A sum and a product keep the lower 64 bits, and the last three work on the 64
+-- bits of each cell.
 abbrev pub combined : Reducer → ℤ → ℤ → ℤ
 combined Add a b = int_wrap w64 (a +ℤ b)
 combined Mul a b = int_wrap w64 (a *ℤ b)
 combined Min a b = int_min a b
 combined Max a b = int_max a b
-combined And a b = int_bit_and w64 a b
-combined Or a b = int_bit_or w64 a b
-combined Xor a b = int_bit_xor w64 a b
+combined And a b = int_bit_and w64 (int_wrap w64 a) (int_wrap w64 b)
+combined Or a b = int_bit_or w64 (int_wrap w64 a) (int_wrap w64 b)
+combined Xor a b = int_bit_xor w64 (int_wrap w64 a) (int_wrap w64 b)
 
 -- what it makes of no cells
 abbrev pub identity_of : Reducer → Option ℤ
@@ -28,3 +29,8 @@ reduced f (x ∷ xs) = Some (fold f x xs)
 abbrev pub folded : Reducer → List ℤ → Option ℤ
 folded op [] = identity_of op
 folded op (x ∷ xs) = reduced (combined op) (x ∷ xs)
+
+-- an operation for which neither the order nor the grouping of what it combines matters
+pub record IsCommutative (f : ℤ → ℤ → ℤ) : Type 0 where
+  pub swapped : (a b : ℤ) → f a b ≡ f b a
+  pub grouped : (a b c : ℤ) → f (f a b) c ≡ f a (f b c)

@@ -1,8 +1,8 @@
 -- What a pick of indexes takes of an array.
-use Rattle.std.specs.Prelude.{ℕ, ℤ, pos, ◌≤ℤ◌, List, [], ◌∷◌, map, All}
+use Rattle.std.specs.Prelude.{ℕ, ◌≡◌, ℤ, pos, ◌+ℤ◌, ◌-ℤ◌, ◌≤ℤ◌, List, [], ◌∷◌, map, All}
 use Rattle.std.specs.List.{flat_map}
 use Rattle.jd_value.specs.Span.{span_length, span_items}
-use Rattle.jd_value.specs.Array.{Shaped, cell_at}
+use Rattle.jd_value.specs.Array.{Shaped, IsInside, cell_at}
 use Rattle.jd_array.specs.declared.slices.Pick.{Pick}
 use Rattle.jd_array.specs.declared.slices.Pick.TheVariants.{One, Many}
 use Rattle.jd_array.specs.declared.fault.ArrayFault.{ArrayFault}
@@ -33,6 +33,18 @@ AreInside _ _ = ⊥
 -- the array of the picked cells
 abbrev pub sliced : Shaped → List Pick → Shaped
 sliced array picks = record { dims = picked_dims picks; cells = map (cell_at array) (picked_indexes picks) }
+
+-- the index in the array of an index of the slice
+abbrev pub source_index : List Pick → List ℤ → List ℤ
+source_index (One i ∷ picks) index = i ∷ source_index picks index
+source_index (Many span ∷ picks) (j ∷ index) = (span.first +ℤ (j -ℤ pos 1)) ∷ source_index picks index
+source_index _ _ = []
+
+-- cell by cell, a slice is the array at the indexes that the picks make of its own
+abbrev pub IsSliceByIndex : Shaped → List Pick → Type 0
+IsSliceByIndex array picks =
+    (index : List ℤ) → IsInside (picked_dims picks) index →
+    IsInside array.dims (source_index picks index) × (cell_at (sliced array picks) index ≡ cell_at array (source_index picks index))
 
 -- when an array has no such slice
 abbrev pub IsUnsliced : Shaped → List Pick → ArrayFault → Type 0

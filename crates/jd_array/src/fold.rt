@@ -1,7 +1,7 @@
 //! Folds of cells by the seven reducing operations.
 ghost use Rattle.std.specs.Prelude.{◌≡◌};
 ghost use Rattle.std.specs.Option.{ok_or};
-ghost use Rattle.jd_array.specs.Fold.{combined, identity_of, folded};
+ghost use Rattle.jd_array.specs.Fold.{combined, identity_of, folded, IsCommutative};
 ghost use Rattle.jd_array.specs.declared.fault.ArrayFault.TheVariants.{Argument};
 
 use crate::fault::ArrayFault;
@@ -64,3 +64,8 @@ pub fn fold_op(op: Reducer, cells: &[i64]) -> Result<i64, ArrayFault>
     }
     Ok(total)
 }
+
+/// The law of the reducing operations: neither the order nor the grouping of the cells matters to them.
+pub fn reducer_is_commutative(_op: Reducer)
+    ensures { IsCommutative (combined _op) }
+{}

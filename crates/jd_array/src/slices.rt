@@ -4,7 +4,7 @@ ghost use Rattle.std.specs.List.{flat_map, range_with_len};
 ghost use Rattle.jd_value.specs.Span.{span_items};
 ghost use Rattle.jd_value.specs.Array.{IsDims, cell_at, offset, product};
 ghost use Rattle.jd_array.specs.Places.{pick_first, pick_length, IsWindow, AreWindows, places, places_along};
-ghost use Rattle.jd_array.specs.Slice.{picked, picked_dims, picked_indexes, AreInside, IsUnsliced, sliced};
+ghost use Rattle.jd_array.specs.Slice.{picked, picked_dims, picked_indexes, AreInside, IsSliceByIndex, IsUnsliced, sliced};
 
 use crate::fault::ArrayFault;
 use crate::index::{is_within, offset_of};
@@ -221,3 +221,9 @@ fn dims_of(dims: &[u64], picks: &[Pick]) -> Dims
     }
     Dims::new(&sizes[..count]).unwrap()
 }
+
+/// The law of slices: cell by cell, a slice is the array at the indexes that the picks make of its own.
+pub fn slice_is_by_index(_array: &Array, _picks: &[Pick])
+    requires { AreInside _array.now.dims _picks.now }
+    ensures { IsSliceByIndex _array.now _picks.now }
+{}
