@@ -33,8 +33,8 @@ pub enum Name {
 /// What a token is.
 #[derive(Clone, Copy, Debug, PartialEq, Eq)]
 pub enum Kind {
-    /// A number below 2^63.
-    Number(u64),
+    /// A number below 2^63. No token has a negative one.
+    Number(i64),
     /// A larger number; true exactly for 2^63, which a `-` may stand before.
     Wide(bool),
     /// A text in quotes, by its place in the script's list of texts.

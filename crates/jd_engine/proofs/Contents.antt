@@ -1,0 +1,50 @@
+-- A script that was read up to one byte past the limit.
+use Rattle.std.proofs.Common.{◌≡◌, ℕ, suc, ◌+◌, ◌<◌, ◌≤◌, List, length, take, drop, refl, sym, ◌∙◌, ap, subst, arith, Option, Some, None, IfSome, IsSome, Result, Ok, Err, length-take, min}
+use Rattle.std.proofs.lemmas.Grind.{common_steps}
+use Rattle.jd_source.specs.Content.{content_of, Opens}
+use Rattle.jd_syntax.specs.Grammar.{Script}
+use Rattle.jd_syntax.specs.Spelling.{Spells}
+use Rattle.jd_syntax.specs.Answers.{RefusesAs}
+use Rattle.jd_syntax.specs.declared.parsing.TheConstants.{MAX_SCRIPT}
+use Rattle.jd_syntax.specs.declared.parsing.ParseKind.{ParseKind}
+use Rattle.jd_syntax.specs.declared.parsing.ParseKind.TheVariants as kind
+use Rattle.jd_engine.specs.declared.lower.Line.{Line}
+use Rattle.jd_engine.specs.declared.status.Ending.{Ending}
+use Rattle.jd_engine.specs.declared.status.Ending.TheVariants as ending
+use Rattle.jd_engine.specs.Endings.{Loads, NotLoaded}
+
+module _ (m : ℕ) (content : List ℕ) where
+  whole : length (take (m + 1) content) ≤ m → take (m + 1) content ≡ content
+  whole h = grind (arith, common_steps, length-take (m + 1) content)
+
+  longer : m < length (take (m + 1) content) → m < length content
+  longer h = grind (arith, common_steps, length-take (m + 1) content)
+
+refuses_whole : (content : List ℕ) (line : ℕ) (k : ParseKind) → RefusesAs (take (MAX_SCRIPT + 1) content) line k → RefusesAs content line k
+refuses_whole content line kind.TooLong h = (h.0, longer MAX_SCRIPT content h.1)
+refuses_whole content line kind.Form h = subst (λ c. RefusesAs c line kind.Form) (whole MAX_SCRIPT content h.1) h
+refuses_whole content line kind.Bytes h = absurd h
+refuses_whole content line kind.Token h = absurd h
+refuses_whole content line kind.WideNumber h = absurd h
+refuses_whole content line kind.TooDeep h = absurd h
+
+pub loads_whole : (content : List ℕ) (r : Result (List Line) Ending) → Loads (take (MAX_SCRIPT + 1) content) r → Loads content r
+loads_whole content (Ok lines) h = (h.0, subst (λ c. Spells c h.0) (whole MAX_SCRIPT content h.1.short) h.1, h.2)
+loads_whole content (Err ending.Done) h = absurd h
+loads_whole content (Err (ending.ScriptError f)) h = absurd h
+loads_whole content (Err ending.Usage) h = absurd h
+loads_whole content (Err (ending.ScriptRefused line k)) h = refuses_whole content line k h
+loads_whole content (Err ending.ReadFault) h = h
+loads_whole content (Err ending.WriteFault) h = absurd h
+loads_whole content (Err ending.OutOfMemory) h = h
+
+-- told files, an open name, and what was read of it
+pub told_bytes : (files : Option (List (List ℕ × List ℕ))) (name : List ℕ) (left : Option (List ℕ)) (limit : ℕ) (bytes : List ℕ) (kept : List (List ℕ × List ℕ)) (content : List ℕ) →
+    Opens files name left → IfSome left (λ xs. bytes ≡ take limit xs) → files ≡ Some kept → content_of kept name ≡ Some content → bytes ≡ take limit content
+told_bytes None name left limit bytes kept content o r e f = cc
+told_bytes (Some fs) name None limit bytes kept content o r e f = cc
+told_bytes (Some fs) name (Some xs) limit bytes kept content o r e f =
+    let same : fs ≡ kept = cc in
+    let there : Some xs ≡ Some content = o.1 ∙ ap (λ k. content_of k name) same ∙ f in
+    let content_is : xs ≡ content = cc in
+    r ∙ ap (take limit) content_is

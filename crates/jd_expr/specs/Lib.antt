@@ -1,0 +1,4 @@
+pub mod Action
+pub mod Arithmetic
+pub mod Meaning
+pub mod Nests
