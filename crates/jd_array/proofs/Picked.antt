@@ -69,11 +69,11 @@ shifted g a s (suc n) is =
     shifted g a (s + 1) n is ∙ ap (λ (m : ℕ). range_with_len m n) (sym (add_assoc a s 1)) in
     ap (λ (x : ℕ). x ∷ map g (range_with_len (s + 1) n)) (is s) ∙ ap (λ (xs : List ℕ). (a + s) ∷ xs) rest
 
-map_flat : {A B C : Type 0} (g : B → C) (f : A → List B) (xs : List A) → map g (flat_map f xs) ≡ flat_map (λ x. map g (f x)) xs
+pub map_flat : {A B C : Type 0} (g : B → C) (f : A → List B) (xs : List A) → map g (flat_map f xs) ≡ flat_map (λ x. map g (f x)) xs
 map_flat g f [] = refl
 map_flat g f (x ∷ xs) = map-append g (f x) (flat_map f xs) ∙ ap (λ ys. map g (f x) ++ ys) (map_flat g f xs)
 
-flat_same : {A B : Type 0} (f g : A → List B) (xs : List A) → ((x : A) → f x ≡ g x) → flat_map f xs ≡ flat_map g xs
+pub flat_same : {A B : Type 0} (f g : A → List B) (xs : List A) → ((x : A) → f x ≡ g x) → flat_map f xs ≡ flat_map g xs
 flat_same f g [] same = refl
 flat_same f g (x ∷ xs) same = ap (λ y. y ++ flat_map f xs) (same x) ∙ ap (λ ys. g x ++ ys) (flat_same f g xs same)
 
@@ -117,7 +117,7 @@ nothing_picked (p ∷ picks) none = elim (cases_lt 0 (pick_length p)) [
       (λ index. ap (λ (is : List ℤ). map (λ i. i ∷ index) is) (nil_from_length (picked p) (omega (arith, length-picked p))))
 ]
 
-length_flat : {A B : Type 0} (f : A → List B) (xs : List A) (n : ℕ) → ((x : A) → length (f x) ≡ n) → length (flat_map f xs) ≡ n * length xs
+pub length_flat : {A B : Type 0} (f : A → List B) (xs : List A) (n : ℕ) → ((x : A) → length (f x) ≡ n) → length (flat_map f xs) ≡ n * length xs
 length_flat f [] n each = omega arith
 length_flat f (x ∷ xs) n each = omega (arith, length-append (f x) (flat_map f xs), each x, length_flat f xs n each)
 

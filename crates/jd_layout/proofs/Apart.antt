@@ -1,5 +1,5 @@
 -- Ids that are taken out of a set one after the other.
-use Rattle.std.proofs.Common.{ℕ, ◌+◌, ◌<◌, ◌≤◌, ◌^◌, ◌≡◌, ◌≢◌, Bool, true, false, ◌&&◌, ◌||◌, not, nat_eq, nat_cmp, List, length, ◌⊎◌, subst, take, get_or, refl, sym, ap, ◌∙◌, inl, inr, IsTrue, All, AllPairs, Contains, arith}
+use Rattle.std.proofs.Common.{ℕ, ◌+◌, ◌<◌, ◌≤◌, ◌^◌, ◌≡◌, ◌≢◌, Bool, true, false, ◌&&◌, ◌||◌, not, nat_eq, nat_cmp, List, length, ◌⊎◌, subst, take, get_or, refl, sym, ap, ◌∙◌, inl, inr, IsTrue, AllPairs, Contains, arith}
 use Rattle.std.specs.List.{list_any}
 use Rattle.std.proofs.lemmas.Bool.{both_ways, eq-eqb}
 use Rattle.std.proofs.lemmas.List.{take_more, get_or-take, get_or_default, length-take}

@@ -1,9 +1,9 @@
 -- The ranges of a part, in their places.
-use Rattle.std.proofs.Common.{ℕ, zero, suc, ◌+◌, ◌-◌, ◌/◌, ◌≤◌, ◌≡◌, List, [], ◌∷◌, ◌++◌, length, take, replicate, refl, sym, subst, ap, ◌∙◌, arith}
+use Rattle.std.proofs.Common.{ℕ, suc, ◌-◌, ◌/◌, ◌≤◌, ◌≡◌, List, [], ◌∷◌, ◌++◌, length, take, replicate, refl, sym, subst, ap, ◌∙◌, arith}
 use Rattle.std.proofs.lemmas.List.{take_all, take_at}
 use Rattle.jd_value.specs.Span.{Ends}
 use Rattle.jd_layout.specs.Blocks.{part_ranges}
-use Rattle.jd_layout.specs.Places.{empty_range, padded, LieIn}
+use Rattle.jd_layout.specs.Places.{empty_range, LieIn}
 
 pub ranges_length : (dims dist : List ℕ) (part : ℕ) → length dist ≡ length dims → length (part_ranges dims dist part) ≡ length dims
 ranges_length [] dist part same = refl

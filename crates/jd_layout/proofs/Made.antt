@@ -1,5 +1,5 @@
 -- The layout that is made.
-use Rattle.std.proofs.Common.{ℕ, ◌≤◌, ◌^◌, ◌<◌, ◌≡◌, ◌≢◌, List, length, take, get_or, sym, subst, ap, ◌∙◌, AllPairs, arith}
+use Rattle.std.proofs.Common.{ℕ, ◌^◌, ◌<◌, ◌≡◌, List, length, take, get_or, sym, ap, ◌∙◌, arith}
 use Rattle.jd_layout.specs.Blocks.{Blocks, IsSize, IsDist, AreProcs, IsLayout}
 use Rattle.jd_layout.proofs.Apart.{few_procs}
 

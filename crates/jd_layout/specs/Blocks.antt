@@ -1,5 +1,5 @@
 -- How the indexes of an array lie in the parts of a layout.
-use Rattle.std.specs.Prelude.{ℕ, ◌+◌, ◌*◌, ◌/◌, ◌%◌, ◌<◌, ◌≤◌, ◌^◌, ◌≡◌, ◌≢◌, ℤ, pos, ◌-ℤ◌, ◌≤ℤ◌, List, [], ◌∷◌, length, unsigned_abs, All, AllPairs, Contains}
+use Rattle.std.specs.Prelude.{ℕ, ◌+◌, ◌*◌, ◌/◌, ◌%◌, ◌<◌, ◌≤◌, ◌^◌, ◌≡◌, ◌≢◌, pos, ◌-ℤ◌, ◌≤ℤ◌, List, [], ◌∷◌, length, unsigned_abs, All, AllPairs, Contains}
 use Rattle.jd_value.specs.Span.{Ends, span_length}
 use Rattle.jd_value.specs.Array.{IsDims, product}
 use Rattle.jd_array.specs.Cut.{piece_length, piece_start}

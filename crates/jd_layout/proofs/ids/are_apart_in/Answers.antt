@@ -1,5 +1,4 @@
-use Rattle.std.proofs.Common.{◌≡◌, true, false, nat_cmp, get_or, sym, ◌∙◌}
-use Rattle.std.specs.BTreeSet.{contains}
+use Rattle.std.proofs.Common.{sym, ◌∙◌}
 use Rattle.jd_layout.proofs.Apart.{left_more, apart_more, not_apart}
 use Rattle.jd_layout.proofs.ids.are_apart_in.Goals as goal
 

@@ -1,4 +1,4 @@
-use Rattle.std.proofs.Common.{◌≤◌, ◌*◌, ◌+◌, ◌^◌, get_or, arith}
+use Rattle.std.proofs.Common.{◌+◌, get_or, arith}
 use Rattle.jd_layout.proofs.Products.{left_more, fits_more, few_cells}
 use Rattle.jd_layout.proofs.layout.cells_in.Goals as goal
 

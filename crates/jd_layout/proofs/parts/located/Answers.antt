@@ -1,7 +1,7 @@
 use Rattle.std.proofs.Common.{◌-◌, length, arith}
 use Rattle.std.proofs.lemmas.List.{drop_all}
 use Rattle.jd_layout.proofs.Indexes.{index_length, index_at}
-use Rattle.jd_layout.proofs.Located.{step, located_none, located_whole}
+use Rattle.jd_layout.proofs.Located.{step, located_none}
 use Rattle.jd_layout.proofs.parts.located.Goals as goal
 
 pub loop-axis-init : goal.loop-axis-init
