@@ -34,6 +34,11 @@ AreInside _ _ = ⊥
 abbrev pub sliced : Shaped → List Pick → Shaped
 sliced array picks = record { dims = picked_dims picks; cells = map (cell_at array) (picked_indexes picks) }
 
+-- the slice that is asked for, where it may be had
+pub record IsSliceOf (array : Shaped) (picks : List Pick) (part : Shaped) : Type 0 where
+  pub inside : AreInside array.dims picks
+  pub is : part ≡ sliced array picks
+
 -- the index in the array of an index of the slice
 abbrev pub source_index : List Pick → List ℤ → List ℤ
 source_index (One i ∷ picks) index = i ∷ source_index picks index

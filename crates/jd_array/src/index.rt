@@ -1,7 +1,7 @@
 //! The cell of an index.
 ghost use Rattle.std.specs.Prelude.{◌≡◌, ◌<◌, ◌^◌, ◌↔◌, ◌≤ℤ◌, pos, IsTrue, MatchResult};
-ghost use Rattle.jd_value.specs.Array.{IsInside, offset, place_of, product, cell_at};
-ghost use Rattle.jd_array.specs.declared.fault.ArrayFault.TheVariants.{Bounds};
+ghost use Rattle.jd_value.specs.Array.{IsInside, offset, place_of, product};
+ghost use Rattle.jd_array.specs.Index.{IsCellAt, IsOutside};
 
 use crate::fault::ArrayFault;
 use jd_value::Array;
@@ -11,7 +11,7 @@ use jd_value::Array;
 /// `Bounds` comes exactly where the index has another number of dimensions or is outside, as Julia's `BoundsError`
 /// for an index of every dimension. Takes no memory and a constant time.
 pub fn at(array: &Array, index: &[i64]) -> Result<i64, ArrayFault>
-    ensures cell { MatchResult result (λ cell. IsInside array.now.dims index.now × (cell ≡ cell_at array.now index.now)) (λ fault. (fault ≡ Bounds) × ¬ IsInside array.now.dims index.now) }
+    ensures { MatchResult result (IsCellAt array.now index.now) (IsOutside array.now index.now) }
 {
     let dims = array.dims();
     if !is_inside(dims.as_slice(), index) {

@@ -4,7 +4,7 @@ ghost use Rattle.std.specs.List.{flat_map, range_with_len};
 ghost use Rattle.jd_value.specs.Span.{span_items};
 ghost use Rattle.jd_value.specs.Array.{IsDims, cell_at, offset, product};
 ghost use Rattle.jd_array.specs.Places.{pick_first, pick_length, IsWindow, AreWindows, places, places_along};
-ghost use Rattle.jd_array.specs.Slice.{picked, picked_dims, picked_indexes, AreInside, IsSliceByIndex, IsUnsliced, sliced};
+ghost use Rattle.jd_array.specs.Slice.{picked, picked_dims, picked_indexes, AreInside, IsSliceByIndex, IsSliceOf, IsUnsliced};
 
 use crate::fault::ArrayFault;
 use crate::index::{is_within, offset_of};
@@ -122,7 +122,11 @@ fn picked_cells(
 ) -> Result<Vec<i64>, AllocError>
     requires window { IsWindow size pick.now }
     requires inside { All (λ row. (row + 1) * size ≤ length cells.now) rows.now }
-    ensures { IfOk result (λ out. out.items ≡ map (λ place. slice_index_or cells.now place (pos 0)) (flat_map (places_along size pick.now) rows.now)) }
+    ensures { IfOk result
+        (λ out.
+        out.items ≡
+        map (λ place. slice_index_or cells.now place (pos 0))
+        (flat_map (places_along size pick.now) rows.now)) }
 {
     let start = pick.start();
     let len = pick.len();
@@ -142,7 +146,7 @@ fn picked_cells(
 /// wanted is this project's own.
 pub fn slice(alloc: Global, array: &Array, picks: &[Pick]) -> Result<Array, ArrayFault>
     requires { 1 ≤ length (picked_dims picks.now) }
-    ensures { MatchResult result (λ part. AreInside array.now.dims picks.now × (part ≡ sliced array.now picks.now)) (IsUnsliced array.now picks.now) }
+    ensures { MatchResult result (IsSliceOf array.now picks.now) (IsUnsliced array.now picks.now) }
 {
     let dims = array.dims();
     if !are_inside(dims.as_slice(), picks) {
@@ -195,7 +199,11 @@ fn window_cells(
     requires dims { IsDims dims.now }
     requires whole { product dims.now ≡ length cells.now }
     requires windows { AreWindows dims.now picks.now }
-    ensures { IfOk result (λ out. out.items ≡ map (λ place. slice_index_or cells.now place (pos 0)) (places dims.now picks.now (0 ∷ []))) }
+    ensures { IfOk result
+        (λ out.
+        out.items ≡
+        map (λ place. slice_index_or cells.now place (pos 0))
+        (places dims.now picks.now (0 ∷ []))) }
 {
     let rows = row_places(alloc, dims, picks)?;
     picked_cells(alloc, cells, rows.as_slice(), dims[0], &picks[0])

@@ -44,6 +44,17 @@ pub record IsLocated (dims dist index : List ℕ) (part place : ℕ) : Type 0 wh
   pub held : LiesIn (part_ranges dims dist part) index
   pub at : place ≡ place_within (part_ranges dims dist part) index
 
+-- an index of the array, with the part and the place that were found for it
+pub record IsFound (blocks : Blocks) (index : List ℕ) (part place : ℕ) : Type 0 where
+  pub valid : IsIndex blocks.dims index
+  pub located : IsLocated blocks.dims blocks.dist index part place
+
+-- an index of the array, with the part that was found for it
+pub record IsPartOf (blocks : Blocks) (index : List ℕ) (part : ℕ) : Type 0 where
+  pub valid : IsIndex blocks.dims index
+  pub is_part : part < product blocks.dist
+  pub held : LiesIn (part_ranges blocks.dims blocks.dist part) index
+
 -- the lengths of an array that may be laid out
 pub record IsSize (dims : List ℕ) : Type 0 where
   pub shape : IsDims dims

@@ -1,8 +1,8 @@
 //! Layouts.
 ghost use Rattle.std.specs.Prelude.{◌≡◌, ◌<◌, ◌≤◌, ◌↔◌, IsSome, IfSome, MatchResult, length, take};
 ghost use Rattle.jd_value.specs.Array.{IsDims, product};
-ghost use Rattle.jd_layout.specs.Blocks.{IsSize, IsIndex, IsLayout, IsLocated, LiesIn, AreProcs, part_ranges};
-ghost use Rattle.jd_layout.specs.Refused.{IsRefusal};
+ghost use Rattle.jd_layout.specs.Blocks.{IsSize, IsIndex, IsLayout, IsFound, IsPartOf, part_ranges};
+ghost use Rattle.jd_layout.specs.Refused.{IsMade, IsRefusal};
 
 use crate::counts::is_dist;
 use crate::fault::{Bounds, LayoutFault};
@@ -46,7 +46,10 @@ impl Layout {
         dist: &[u32],
         known: &[u32],
     ) -> Result<Layout, LayoutFault>
-        ensures { MatchResult result (λ layout. (layout ≡ record { dims = dims.now; dist = dist.now; procs = procs.now }) × IsLayout layout × AreProcs procs.now known.now) (IsRefusal dims.now procs.now dist.now known.now) }
+        ensures {
+            MatchResult result (IsMade dims.now procs.now dist.now known.now)
+              (IsRefusal dims.now procs.now dist.now known.now)
+        }
     {
         let Some(sizes) = sizes_of(dims) else {
             return Err(LayoutFault::BadSize);
@@ -99,7 +102,9 @@ impl Layout {
     /// The part in which an index lies. `Bounds` comes exactly where the index is outside. Takes no memory and a
     /// constant time.
     pub fn part_of(&self, index: &[u64]) -> Result<u32, Bounds>
-        ensures { MatchResult result (λ part. IsIndex self.now.dims index.now × (part < product self.now.dist) × LiesIn (part_ranges self.now.dims self.now.dist part) index.now) (λ _. ¬ IsIndex self.now.dims index.now) }
+        ensures {
+            MatchResult result (IsPartOf self.now index.now) (λ _. ¬ IsIndex self.now.dims index.now)
+        }
     {
         let (part, _) = self.locate(index)?;
         Ok(part)
@@ -108,7 +113,10 @@ impl Layout {
     /// The part in which an index lies, and the place of its cell there, from 0. `Bounds` comes exactly where the
     /// index is outside. Takes no memory and a constant time.
     pub fn locate(&self, index: &[u64]) -> Result<(u32, u64), Bounds>
-        ensures { MatchResult result (λ found. IsIndex self.now.dims index.now × IsLocated self.now.dims self.now.dist index.now found.0 found.1) (λ _. ¬ IsIndex self.now.dims index.now) }
+        ensures {
+            MatchResult result (λ found. IsFound self.now index.now found.0 found.1)
+              (λ _. ¬ IsIndex self.now.dims index.now)
+        }
     {
         let dims = self.dims.as_slice();
         if !is_index(dims, index) {
