@@ -30,10 +30,8 @@ fn id_set(alloc: Global, ids: &[u32]) -> Result<BTreeSet<u32>, AllocError>
 /// Takes an id out of the set, and answers whether it was there.
 fn take_id(set: &mut BTreeSet<u32>, id: u32) -> bool
     ensures found { result ≡ contains nat_cmp set.old id }
-    ensures others {
-        (q : ℕ) →
-          contains nat_cmp set.new q ≡ (contains nat_cmp set.old q && not (nat_eq q id))
-    }
+    ensures others { (q : ℕ) →
+        contains nat_cmp set.new q ≡ (contains nat_cmp set.old q && not (nat_eq q id)) }
 {
     set.remove(&id)
 }

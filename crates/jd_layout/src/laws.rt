@@ -20,20 +20,16 @@ pub fn layout_is_partition(layout: &Layout)
 /// `Layout::locate` gives.
 pub fn parts_have_cells(_layout: &Layout, _whole: &Array)
     requires { _layout.now.dims ≡ _whole.now.dims }
-    ensures {
-        (index : List ℕ) (part place : ℕ) →
-          IsLocated _whole.now.dims _layout.now.dist index part place →
-          HasCell _whole.now _layout.now.dist index part place
-    }
+    ensures { (index : List ℕ) (part place : ℕ) →
+        IsLocated _whole.now.dims _layout.now.dist index part place →
+        HasCell _whole.now _layout.now.dist index part place }
 {}
 
 /// Gathering the parts cell by cell gives the whole array back.
 pub fn gathered_is_whole(layout: &Layout, whole: &Array)
     requires { layout.now.dims ≡ whole.now.dims }
-    ensures {
-        (gathered : Shaped) →
-          IsGathered whole.now layout.now.dist gathered → gathered ≡ whole.now
-    }
+    ensures { (gathered : Shaped) →
+        IsGathered whole.now layout.now.dist gathered → gathered ≡ whole.now }
 {
     let _ = layout.dims();
     let _ = whole.dims();
@@ -43,9 +39,7 @@ pub fn gathered_is_whole(layout: &Layout, whole: &Array)
 /// cell are left out.
 pub fn parts_fold_to_whole(layout: &Layout, whole: &Array, _op: Reducer)
     requires { layout.now.dims ≡ whole.now.dims }
-    ensures {
-        folded _op (folds_of_parts _op whole.now layout.now.dist) ≡ folded _op whole.now.cells
-    }
+    ensures { folded _op (folds_of_parts _op whole.now layout.now.dist) ≡ folded _op whole.now.cells }
 {
     let _ = layout.dims();
     let _ = whole.dims();

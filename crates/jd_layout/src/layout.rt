@@ -46,10 +46,8 @@ impl Layout {
         dist: &[u32],
         known: &[u32],
     ) -> Result<Layout, LayoutFault>
-        ensures {
-            MatchResult result (IsMade dims.now procs.now dist.now known.now)
-              (IsRefusal dims.now procs.now dist.now known.now)
-        }
+        ensures { MatchResult result (IsMade dims.now procs.now dist.now known.now)
+            (IsRefusal dims.now procs.now dist.now known.now) }
     {
         let Some(sizes) = sizes_of(dims) else {
             return Err(LayoutFault::BadSize);
@@ -102,9 +100,7 @@ impl Layout {
     /// The part in which an index lies. `Bounds` comes exactly where the index is outside. Takes no memory and a
     /// constant time.
     pub fn part_of(&self, index: &[u64]) -> Result<u32, Bounds>
-        ensures {
-            MatchResult result (IsPartOf self.now index.now) (λ _. ¬ IsIndex self.now.dims index.now)
-        }
+        ensures { MatchResult result (IsPartOf self.now index.now) (λ _. ¬ IsIndex self.now.dims index.now) }
     {
         let (part, _) = self.locate(index)?;
         Ok(part)
@@ -113,10 +109,8 @@ impl Layout {
     /// The part in which an index lies, and the place of its cell there, from 0. `Bounds` comes exactly where the
     /// index is outside. Takes no memory and a constant time.
     pub fn locate(&self, index: &[u64]) -> Result<(u32, u64), Bounds>
-        ensures {
-            MatchResult result (λ found. IsFound self.now index.now found.0 found.1)
-              (λ _. ¬ IsIndex self.now.dims index.now)
-        }
+        ensures { MatchResult result (λ found. IsFound self.now index.now found.0 found.1)
+            (λ _. ¬ IsIndex self.now.dims index.now) }
     {
         let dims = self.dims.as_slice();
         if !is_index(dims, index) {

@@ -64,7 +64,9 @@ fn the_first_failing_test_refuses(rt: HostRuntime) -> Result<(), Fail> {
     let size = LayoutFault::BadSize;
     let dist = LayoutFault::BadDist;
     let procs = LayoutFault::BadProcs;
-    let refused = |dims: &[u64], over: &[u32], counts: &[u32]| Layout::new(alloc, dims, over, counts, &WORKERS).err();
+    let refused = |dims: &[u64], over: &[u32], counts: &[u32]| Layout::new(
+        alloc, dims, over, counts, &WORKERS,
+    ).err();
     assert_eq!(rt; refused(&[], &[9], &[0]), Some(size));
     assert_eq!(rt; refused(&[1, 1, 1, 1], &[9], &[0]), Some(size));
     assert_eq!(rt; refused(&[262_145], &[2], &[1]), Some(size));
