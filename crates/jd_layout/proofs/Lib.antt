@@ -1,0 +1,11 @@
+pub mod Apart
+pub mod Axes
+pub mod Big
+pub mod Folding
+pub mod Gathering
+pub mod Indexes
+pub mod Located
+pub mod Made
+pub mod Products
+pub mod Runs
+pub mod Whole
