@@ -1,0 +1,5 @@
+pub mod Invariant
+pub mod Close
+pub mod BracketSteps
+pub mod PartSteps
+pub mod Sound
