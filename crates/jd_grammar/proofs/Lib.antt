@@ -3,3 +3,5 @@ pub mod Close
 pub mod BracketSteps
 pub mod PartSteps
 pub mod Sound
+pub mod Steps
+pub mod Reach
