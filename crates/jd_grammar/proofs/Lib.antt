@@ -5,3 +5,4 @@ pub mod PartSteps
 pub mod Sound
 pub mod Steps
 pub mod Reach
+pub mod Finish

@@ -80,7 +80,7 @@ next_comma : (gens : Generators) → next_kind Comma gens ≡ Comma
 next_comma no_more = refl
 next_comma (generator s m j x gens) = refl
 
-are_with_generator : (k : Kind) (gens : Generators) (t n i : Token) (e : Syntax) → AreGenerators k gens → t.kind ≡ next_kind k gens → IsTrue (is_name n.kind) → i.kind ≡ In → IsAt true false 1 e
+pub are_with_generator : (k : Kind) (gens : Generators) (t n i : Token) (e : Syntax) → AreGenerators k gens → t.kind ≡ next_kind k gens → IsTrue (is_name n.kind) → i.kind ≡ In → IsAt true false 1 e
     → AreGenerators k (with_generator gens t n i e)
 are_with_generator k no_more t n i e w h a b u = (h, a, b, u, tt)
 are_with_generator k (generator s m j x gens) t n i e w h a b u = (w.0, w.1, w.2, w.3, are_with_generator Comma gens t n i e w.4 (h ∙ sym (next_comma gens)) a b u)

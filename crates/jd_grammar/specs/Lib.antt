@@ -1,4 +1,5 @@
 pub mod Kinds
 pub mod Grammar
+pub mod Depth
 pub mod Frames
 pub mod Machine
