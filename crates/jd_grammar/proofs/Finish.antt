@@ -112,10 +112,10 @@ pub record Ready : Type 0 where
   pub operand : Syntax
   pub ahead : List Token → List Token
 
-abbrev ready : List Frame → Syntax → (List Token → List Token) → Ready
+abbrev pub ready : List Frame → Syntax → (List Token → List Token) → Ready
 ready fs e go = record { frames = fs; operand = e; ahead = go }
 
-abbrev sign_ready : Syntax → Token → Items → Token → List Frame → Ready
+abbrev pub sign_ready : Syntax → Token → Items → Token → List Frame → Ready
 sign_ready f o es t fs = ready fs (bracket (called f) o es (just (sign t)) (token CloseParen)) (λ rest. token CloseParen ∷ rest)
 
 -- an operator that may still be an argument is one
@@ -125,16 +125,16 @@ want_ready (open_end (unary s) ∷ (fixed (in_bracket (called f) o es) ∷ fs)) 
     else ready (open_end (unary s) ∷ (fixed (in_bracket (called f) o es) ∷ fs)) zero_leaf (λ rest. token (Number 0) ∷ rest)
 want_ready fs = ready fs zero_leaf (λ rest. token (Number 0) ∷ rest)
 
-abbrev a_name : Token
+abbrev pub a_name : Token
 a_name = token (Name (name.Other 0))
 
-abbrev an_int : Token
+abbrev pub an_int : Token
 an_int = token (Name (name.Word word.Int))
 
 abbrev channel_end : List Token → List Token
 channel_end rest = token CloseParen ∷ token Comma ∷ token (Number 0) ∷ token CloseParen ∷ rest
 
-abbrev a_remote : Channel → Token → Token → Token → Syntax → Token → Syntax
+abbrev pub a_remote : Channel → Token → Token → Token → Syntax → Token → Syntax
 a_remote c type z o size p = remote c type z o size p (token Comma) zero_leaf (token CloseParen)
 
 abbrev pub words_ready : Words → List Frame → Ready

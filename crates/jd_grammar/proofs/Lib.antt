@@ -6,3 +6,4 @@ pub mod Sound
 pub mod Steps
 pub mod Reach
 pub mod Finish
+pub mod Nesting
