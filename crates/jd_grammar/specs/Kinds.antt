@@ -103,6 +103,10 @@ abbrev pub stands : Kind → Bool → Bool
 stands Colon ranges = ranges
 stands _ ranges = true
 
+abbrev pub is_comma : Kind → Bool
+is_comma Comma = true
+is_comma _ = false
+
 -- ---- names
 
 abbrev pub word_number : Word → ℕ

@@ -4,3 +4,5 @@ pub mod Depth
 pub mod Frames
 pub mod Machine
 pub mod Needs
+pub mod Script
+pub mod Reader
