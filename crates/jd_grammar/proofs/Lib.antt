@@ -7,3 +7,5 @@ pub mod Steps
 pub mod Reach
 pub mod Finish
 pub mod Nesting
+pub mod Context
+pub mod ScriptSound

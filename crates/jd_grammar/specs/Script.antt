@@ -202,17 +202,17 @@ pub data Role : Type 0 where
   -- only `catch` may follow
   trying : Role
   -- only `end` may follow
-  closed : Role
+  settled : Role
 
 abbrev pub role_of_header : Header → Role
 role_of_header (if_head t) = conditional
 role_of_header (elseif_head t) = conditional
-role_of_header _ = closed
+role_of_header _ = settled
 
 abbrev pub role_of : Opening → Role
 role_of (headed h c sep) = role_of_header h
 role_of (try_open t) = trying
-role_of _ = closed
+role_of _ = settled
 
 abbrev pub role : Prior → Role
 role (begun x o) = role_of o
@@ -240,7 +240,7 @@ follows _ _ = false
 
 abbrev pub may_end : Role → Bool
 may_end conditional = true
-may_end closed = true
+may_end settled = true
 may_end _ = false
 
 -- ---- the grammar's trees
