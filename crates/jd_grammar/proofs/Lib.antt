@@ -9,3 +9,5 @@ pub mod Finish
 pub mod Nesting
 pub mod Context
 pub mod ScriptSound
+pub mod ScriptSteps
+pub mod ScriptReach
