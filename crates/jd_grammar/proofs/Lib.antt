@@ -11,3 +11,4 @@ pub mod Context
 pub mod ScriptSound
 pub mod ScriptSteps
 pub mod ScriptReach
+pub mod ScriptFinish

@@ -6,3 +6,4 @@ pub mod Machine
 pub mod Needs
 pub mod Script
 pub mod Reader
+pub mod ScriptDepth
