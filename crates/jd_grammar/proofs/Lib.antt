@@ -12,3 +12,4 @@ pub mod ScriptSound
 pub mod ScriptSteps
 pub mod ScriptReach
 pub mod ScriptFinish
+pub mod Theorems

@@ -7,3 +7,4 @@ pub mod Needs
 pub mod Script
 pub mod Reader
 pub mod ScriptDepth
+pub mod Promise
