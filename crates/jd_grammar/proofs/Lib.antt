@@ -13,3 +13,5 @@ pub mod ScriptSteps
 pub mod ScriptReach
 pub mod ScriptFinish
 pub mod Theorems
+pub mod Begun
+pub mod ScriptNesting

@@ -43,15 +43,15 @@ header_end x h s = ended_with (with_block x (headed h (whole s) separator)) (λ 
 abbrev lead_end : Lead → State → Ended
 lead_end l s = ended_with (ended l (whole s)) (to_end s)
 
-abbrev bare_end : List Frame → Now → Ended
+abbrev pub bare_end : List Frame → Now → Ended
 bare_end [] wanted = record { place = empty; ahead = λ rest. rest }
 bare_end fs n = lead_end bare (record { frames = fs; now = n })
 
-abbrev return_end : Token → List Frame → Now → Ended
+abbrev pub return_end : Token → List Frame → Now → Ended
 return_end t [] wanted = ended_with (alone t) (λ rest. rest)
 return_end t fs n = lead_end (returned t) (record { frames = fs; now = n })
 
-abbrev expression_end : Bottom → State → Ended
+abbrev pub expression_end : Bottom → State → Ended
 expression_end (in_lead bare) s = bare_end s.frames s.now
 expression_end (in_lead (returned t)) s = return_end t s.frames s.now
 expression_end (in_lead l) s = lead_end l s
@@ -67,7 +67,7 @@ above no_parameters = 0
 above (first n) = number_of n.kind + 1
 above (next ps comma n) = max (number_of n.kind + 1) (above ps)
 
-abbrev new_name : Parameters → Token
+abbrev pub new_name : Parameters → Token
 new_name ps = token (Name (name.Other (above ps)))
 
 abbrev for_end : Token → Token → Token → Ended
@@ -76,7 +76,7 @@ for_end t n i = header_end fresh (for_head t n i) (want [])
 abbrev distributed_end : Target → Token → Token → Token → Token → Token → Token → Token → Ended
 distributed_end g t o op c f n i = header_end fresh (distributed_head g t o op c f n i) (want [])
 
-abbrev owned : Owner → Signature → Stmt
+abbrev pub owned : Owner → Signature → Stmt
 owned (of_function every t) s = with_block fresh (function_open every t s)
 owned (of_everywhere every) s = ended (defined_everywhere every s (token Assign)) zero_leaf
 
@@ -84,7 +84,7 @@ abbrev owner_end : Owner → List Token → List Token
 owner_end (of_function every t) rest = end_token ∷ rest
 owner_end (of_everywhere every) rest = token Assign ∷ token (Number 0) ∷ rest
 
-abbrev a_signature : Token → Token → Parameters → Signature
+abbrev pub a_signature : Token → Token → Parameters → Signature
 a_signature f o ps = record { name = f; opens = o; parameters = ps; closes = token CloseParen }
 
 abbrev signature_done : Owner → Token → Token → Parameters → (List Token → List Token) → Ended
@@ -99,10 +99,10 @@ a_package = token (Name (name.Word word.Distributed))
 abbrev catch_end : Before → Opening → (List Token → List Token) → Ended
 catch_end x o go = ended_with (with_block x o) (λ rest. go (end_token ∷ rest))
 
-abbrev opens_with : Token
+abbrev pub opens_with : Token
 opens_with = token OpenParen
 
-abbrev words_end : Awaited → Ended
+abbrev pub words_end : Awaited → Ended
 words_end (for_name t) = ended_with (with_block fresh (headed (for_head t a_name (token In)) zero_leaf separator)) (λ rest. a_name ∷ token In ∷ token (Number 0) ∷ separator ∷ end_token ∷ rest)
 words_end (for_in t n) = ended_with (with_block fresh (headed (for_head t n (token In)) zero_leaf separator)) (λ rest. token In ∷ token (Number 0) ∷ separator ∷ end_token ∷ rest)
 words_end (distributed_open g t) = ended_with (with_block fresh (headed (distributed_head g t opens_with (token Plus) (token CloseParen) (token For) a_name (token In)) zero_leaf separator))
@@ -236,7 +236,7 @@ mode_ok sc (complete s) w = record { grammar = w; tokens = λ rest. refl }
 -- ---- the blocks' ends
 
 -- `try` wants its `catch`
-abbrev shut : Before → Opening → Block → Stmt
+abbrev pub shut : Before → Opening → Block → Stmt
 shut x (try_open t) b = with_block (behind (begun x (try_open t)) b) (catch_open (token Catch) separator)
 shut x o b = blocks (begun x o) b end_token
 
