@@ -15,3 +15,5 @@ pub mod ScriptFinish
 pub mod Theorems
 pub mod Begun
 pub mod ScriptNesting
+pub mod Limit
+pub mod Refuse

@@ -53,7 +53,7 @@ WholeNeeds n b (a_place p) = (n ≤ depth_place p) × (b ≡ true → is_stmt p 
 WholeNeeds n b (a_header x h c) = n ≤ header_weight h + max (height_before x) (height c)
 
 -- the depth of a statement whose expression has this height
-abbrev over : Bottom → ℕ → ℕ
+abbrev pub over : Bottom → ℕ → ℕ
 over (in_lead l) h = lead_weight l + h
 over (in_header x d) h = header_weight d + max (height_before x) h
 
@@ -70,7 +70,7 @@ below_over (in_lead (defined_everywhere e g t)) s = omega arith
 below_over (in_lead (returned t)) s = elim (is_fresh s.frames s.now) as (λ b. (if b then 0 else 1 + least.needs s) ≤ 1 + least.needs s) [ true ↦ omega arith | false ↦ omega arith ]
 below_over (in_header x h) s = omega arith
 
-over_below : (b : Bottom) (s : State) → is_fresh s.frames s.now ≡ false → over b (least.needs s) ≤ mode_needs (at_expression b s)
+pub over_below : (b : Bottom) (s : State) → is_fresh s.frames s.now ≡ false → over b (least.needs s) ≤ mode_needs (at_expression b s)
 over_below (in_lead bare) s h = omega arith
 over_below (in_lead (assigned n t)) s h = omega arith
 over_below (in_lead (updated n t)) s h = omega arith
