@@ -1,8 +1,8 @@
 -- What a step reads is there: behind it an expression has begun.
-use Rattle.std.proofs.Common.{ℕ, ◌≡◌, ◌≤◌, ◌<◌, ◌+◌, Bool, true, false, List, [], ◌∷◌, refl, sym, ap, subst, ◌∙◌, arith}
+use Rattle.std.proofs.Common.{ℕ, ◌≡◌, ◌≤◌, ◌<◌, ◌+◌, Bool, true, false, List, [], ◌∷◌, Option, Some, None, refl, sym, ap, subst, ◌∙◌, arith}
 use Rattle.jd_grammar.specs.declared.token.Token.{Token}
-use Rattle.jd_grammar.specs.Grammar.{Channel, Syntax, leaf, sign, ending, bracket, comprehension, remote, Head, unary, binary, choice, lambda, spawn, keyword, Bracket, grouped, called, itemed, indexed, Items, none, more, Maybe, nothing, just, Generators, no_more, generator, put_channel, put, put_head, put_bracket, put_items, put_maybe, put_generators}
-use Rattle.jd_grammar.specs.Frames.{Hold, spawning, Fixed, in_bracket, in_middle, in_group, in_generator, in_size, in_place, Frame, open_end, fixed, Words, operator, atoms, minus, generator_name, generator_in, element_type, type_end, size_begin, place_begin, Now, wanted, got, pending, State}
+use Rattle.jd_grammar.specs.Grammar.{Channel, Syntax, leaf, sign, ending, bracket, matrix, comprehension, remote, Head, unary, binary, choice, lambda, spawn, keyword, Bracket, grouped, called, itemed, indexed, Cells, no_cells, cell, row, Items, none, more, Maybe, nothing, just, Generators, no_more, generator, put_channel, put, put_head, put_bracket, put_cells, put_items, put_maybe, put_generators}
+use Rattle.jd_grammar.specs.Frames.{Hold, spawning, rows, Fixed, in_bracket, in_middle, in_group, in_generator, in_size, in_place, Frame, open_end, fixed, Words, operator, atoms, minus, generator_name, generator_in, element_type, type_end, size_begin, place_begin, Now, wanted, got, pending, State}
 use Rattle.jd_grammar.specs.ScriptDepth.{is_fresh}
 use Rattle.jd_grammar.proofs.Invariant.{put_hold, put_fixed, put_frame, put_frames, put_words, put_now, put_state, IsStep}
 
@@ -17,9 +17,10 @@ mutual
   longer (ending h e) rest = omega (arith, longer e rest, longer_head h (put e rest))
   longer (bracket b o most last c) rest =
       omega (arith, longer_maybe last (c ∷ rest), longer_items most (put_maybe last (c ∷ rest)), longer_bracket b (o ∷ put_items most (put_maybe last (c ∷ rest))))
+  longer (matrix o a cells c) rest = omega (arith, longer_cells cells (c ∷ rest), longer a (put_cells cells (c ∷ rest)))
   longer (comprehension o e gens c) rest = omega (arith, longer_generators gens (c ∷ rest), longer e (put_generators gens (c ∷ rest)))
-  longer (remote x type shut o size closes comma place last) rest =
-      omega (arith, longer place (last ∷ rest), longer size (closes ∷ comma ∷ put place (last ∷ rest)))
+  longer (remote x type shut o width closes comma place last) rest =
+      omega (arith, longer place (last ∷ rest), longer width (closes ∷ comma ∷ put place (last ∷ rest)))
 
   longer_head : (h : Head) (rest : List Token) → size rest ≤ size (put_head h rest)
   longer_head (unary t) rest = omega arith
@@ -35,6 +36,11 @@ mutual
   longer_bracket itemed rest = omega arith
   longer_bracket (indexed f) rest = longer f rest
 
+  longer_cells : (cells : Cells) (rest : List Token) → size rest ≤ size (put_cells cells rest)
+  longer_cells no_cells rest = omega arith
+  longer_cells (cell a cells) rest = omega (arith, longer_cells cells rest, longer a (put_cells cells rest))
+  longer_cells (row t a cells) rest = omega (arith, longer_cells cells rest, longer a (put_cells cells rest))
+
   longer_items : (es : Items) (rest : List Token) → size rest ≤ size (put_items es rest)
   longer_items none rest = omega arith
   longer_items (more e t es) rest = omega (arith, longer_items es rest, longer e (t ∷ put_items es rest))
@@ -49,6 +55,8 @@ mutual
 
 longer_hold : (hold : Hold) (rest : List Token) → size rest ≤ size (put_hold hold rest)
 longer_hold (spawning t) rest = omega arith
+longer_hold (rows o a cells None) rest = omega (arith, longer_cells cells rest, longer a (put_cells cells rest))
+longer_hold (rows o a cells (Some t)) rest = omega (arith, longer_cells cells (t ∷ rest), longer a (put_cells cells (t ∷ rest)))
 
 longer_fixed : (f : Fixed) (rest : List Token) → size rest ≤ size (put_fixed f rest)
 longer_fixed (in_bracket b o es) rest = omega (arith, longer_items es rest, longer_bracket b (o ∷ put_items es rest))

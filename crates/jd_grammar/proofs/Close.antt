@@ -5,7 +5,7 @@ use Rattle.jd_grammar.specs.declared.token.Token.{Token}
 use Rattle.jd_grammar.specs.declared.token.Kind.{Kind}
 use Rattle.jd_grammar.specs.declared.token.Kind.TheVariants.{OrElse, AndAlso, Equal, Unequal, Less, LessEqual, Greater, GreaterEqual, Colon, Plus, Minus, Or, Xor, Star, Divide, Percent, And}
 use Rattle.jd_grammar.specs.Kinds.{strength, left}
-use Rattle.jd_grammar.specs.Grammar.{Syntax, leaf, sign, ending, bracket, comprehension, remote, Head, unary, binary, choice, lambda, spawn, keyword, grouped, called, itemed, indexed, put, asks, level, is_negation, touches, IsAt}
+use Rattle.jd_grammar.specs.Grammar.{Syntax, leaf, sign, ending, bracket, matrix, comprehension, remote, Head, unary, binary, choice, lambda, spawn, keyword, grouped, called, itemed, indexed, put, asks, level, is_negation, touches, IsAt}
 use Rattle.jd_grammar.specs.Frames.{Fixed, in_bracket, Frame, open_end, fixed, State, have, demand, demand_of, ranges, negated}
 use Rattle.jd_grammar.specs.Machine.{close}
 use Rattle.jd_grammar.proofs.Invariant.{put_frames, put_state, AreFrames, IsState}
@@ -61,6 +61,7 @@ weaken r g m n (leaf t) h w = w
 weaken r g m n (sign t) h w = (omega arith, w.1)
 weaken r g m n (ending d e) h w = (omega arith, w.1, w.2)
 weaken r g m n (bracket b o es last c) h w = w
+weaken r g m n (matrix o a cells c) h w = w
 weaken r g m n (comprehension o e gens c) h w = w
 weaken r g m n (remote c type shut o size closes comma place last) h w = w
 
@@ -98,5 +99,6 @@ touches_of r g n (leaf u) t w h = refl
 touches_of r g n (sign u) t w h = absurd (omega (arith, w.0, h))
 touches_of r g n (ending d e) t w h = refl
 touches_of r g n (bracket b o es last c) t w h = refl
+touches_of r g n (matrix o a cells c) t w h = refl
 touches_of r g n (comprehension o e gens c) t w h = refl
 touches_of r g n (remote c type shut o size closes comma place last) t w h = refl

@@ -2,15 +2,22 @@
 use Rattle.std.proofs.Common.{ℕ, ◌≡◌, ◌≤◌, ◌+◌, Bool, true, false, ◌&&◌, IsTrue, List, [], ◌∷◌, ◌++◌, Option, Some, None, if◌then◌else◌, refl, sym, ap, subst, ◌∙◌, arith}
 use Rattle.jd_grammar.specs.declared.token.Token.{Token}
 use Rattle.jd_grammar.specs.declared.token.Kind.{Kind}
-use Rattle.jd_grammar.specs.declared.token.Kind.TheVariants.{Minus, Question, Comma, For, In, OpenParen, CloseParen, OpenBracket, CloseBrace}
+use Rattle.jd_grammar.specs.declared.token.Kind.TheVariants.{Minus, Question, Comma, Semicolon, For, In, OpenParen, CloseParen, OpenBracket, CloseBrace}
 use Rattle.jd_grammar.specs.Kinds.{is_name, is_argument, is_spawn, is_element_type}
-use Rattle.jd_grammar.specs.Grammar.{Channel, Syntax, Head, Bracket, called, Items, Generators, no_more, generator, put_channel, put, put_head, put_bracket, put_items, put_generators, opens, count, level, IsChannel, IsAt, IsHead, IsBracket, AreItems, AreGenerators}
-use Rattle.jd_grammar.specs.Frames.{Hold, spawning, Fixed, in_bracket, in_middle, in_group, in_generator, in_size, in_place, Frame, open_end, fixed, Words, operator, atoms, minus, generator_name, generator_in, element_type, type_end, size_begin, place_begin, Now, wanted, got, pending, State, demand, ranges, negated}
+use Rattle.jd_grammar.specs.Grammar.{Channel, Syntax, Head, Bracket, called, Cells, Items, Generators, no_more, generator, put_channel, put, put_head, put_bracket, put_cells, put_items, put_generators, opens, count, level, IsChannel, IsAt, IsHead, IsBracket, AreCells, AreItems, AreGenerators}
+use Rattle.jd_grammar.specs.Rows.{is_atom, are_many, are_even, first_width, are_begun, may_go_on}
+use Rattle.jd_grammar.specs.Machine.{takes}
+use Rattle.jd_grammar.specs.Frames.{Hold, spawning, rows, Fixed, in_bracket, in_middle, in_group, in_generator, in_size, in_place, Frame, open_end, fixed, Words, operator, atoms, minus, generator_name, generator_in, element_type, type_end, size_begin, place_begin, Now, wanted, got, pending, State, demand, ranges, negated}
 
 -- ---- the tokens read so far, in front of the rest
 
+abbrev pub put_pending : Option Token → List Token → List Token
+put_pending None rest = rest
+put_pending (Some t) rest = t ∷ rest
+
 abbrev pub put_hold : Hold → List Token → List Token
 put_hold (spawning t) rest = t ∷ rest
+put_hold (rows o a cells q) rest = o ∷ put a (put_cells cells (put_pending q rest))
 
 abbrev pub put_fixed : Fixed → List Token → List Token
 put_fixed (in_bracket b o es) rest = put_bracket b (o ∷ put_items es rest)
@@ -54,8 +61,15 @@ abbrev pub next_kind : Kind → Generators → Kind
 next_kind k no_more = k
 next_kind k (generator t n i e gens) = Comma
 
+-- with one atom it waits for the second row
+abbrev pub IsPending : Cells → Option Token → Type 0
+IsPending cells None = IsTrue (are_many cells)
+IsPending cells (Some t) = (t.kind ≡ Semicolon) × IsTrue (may_go_on cells)
+
 abbrev pub IsHold : List Frame → Hold → Type 0
 IsHold fs (spawning t) = IsTrue (is_spawn t.kind) × (demand fs ≤ 1)
+IsHold fs (rows o a cells q) = (o.kind ≡ OpenBracket) × IsAt true false 9 a × IsTrue (is_atom a) × AreCells cells
+    × IsTrue (are_even (first_width 1 cells) 1 cells) × IsTrue (are_begun cells) × IsPending cells q
 
 abbrev pub AreBegun : Token → Syntax → Generators → Token → Type 0
 AreBegun o e gens t = (o.kind ≡ OpenBracket) × IsAt true false 1 e × AreGenerators For gens × (count gens ≤ 2) × (t.kind ≡ next_kind For gens)
@@ -69,7 +83,7 @@ IsSized c type shut o = IsTyped c type × (shut.kind ≡ CloseBrace) × (o.kind 
 abbrev pub IsFixed : List Frame → Fixed → Type 0
 IsFixed fs (in_bracket b o es) = IsBracket (ranges fs) (negated fs) b × (o.kind ≡ opens b) × AreItems b es
 IsFixed fs (in_middle c q) = IsAt (ranges fs) (negated fs) 3 c × (q.kind ≡ Question) × (demand fs ≤ 2)
-IsFixed fs (in_group hold p) = IsHold fs hold × (p.kind ≡ OpenParen)
+IsFixed fs (in_group hold p) = IsHold fs hold × (p.kind ≡ OpenParen) × IsTrue (takes hold p)
 IsFixed fs (in_generator o e gens t n i) = AreBegun o e gens t × IsTrue (is_name n.kind) × (i.kind ≡ In)
 IsFixed fs (in_size c type shut o) = IsSized c type shut o
 IsFixed fs (in_place c type shut o size closes comma) = IsSized c type shut o × IsAt true false 1 size × (closes.kind ≡ CloseParen) × (comma.kind ≡ Comma)
@@ -87,7 +101,7 @@ IsCall _ = ⊥
 abbrev pub IsWords : List Frame → Words → Type 0
 IsWords fs (operator t) = IsTrue (is_argument t.kind) × IsCall fs
 IsWords fs (atoms hold) = IsHold fs hold
-IsWords fs (minus hold m) = IsHold fs hold × (m.kind ≡ Minus)
+IsWords fs (minus hold m) = IsHold fs hold × (m.kind ≡ Minus) × IsTrue (takes hold m)
 IsWords fs (generator_name o e gens t) = AreBegun o e gens t
 IsWords fs (generator_in o e gens t n) = AreBegun o e gens t × IsTrue (is_name n.kind)
 IsWords fs (element_type c) = IsChannel c

@@ -1,11 +1,15 @@
+pub mod RowFacts
 pub mod Invariant
+pub mod RowSplit
 pub mod Close
 pub mod BracketSteps
 pub mod PartSteps
 pub mod Sound
 pub mod Steps
+pub mod RowSteps
 pub mod Reach
 pub mod Finish
+pub mod Under
 pub mod Nesting
 pub mod Context
 pub mod ScriptSound

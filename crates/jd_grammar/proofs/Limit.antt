@@ -5,12 +5,12 @@ use Rattle.jd_grammar.specs.Grammar.{Syntax}
 use Rattle.jd_grammar.specs.Frames.{Frame, Now, wanted, got, pending, have}
 use Rattle.jd_grammar.specs.Machine.{close}
 use Rattle.jd_grammar.specs.Depth.{height}
-use Rattle.jd_grammar.specs.Needs.{height_all}
+use Rattle.jd_grammar.specs.Shortest.{wrap}
 use Rattle.jd_grammar.specs.Script.{Lead, bare, returned, Block, block, Lines, Place, empty, stmt}
 use Rattle.jd_grammar.specs.Reader.{Outer, Bottom, in_lead, in_header, Mode, at_expression, at_words, complete, Config, start, Whole, nothing_whole, a_place, a_header, with_expression, without_expression, whole_at, whole_of, and_then, run, finish_place, finish}
 use Rattle.jd_grammar.specs.ScriptDepth.{depth_place, depth_lines, depth, limit, is_fresh, mode_needs, has_begun, round_needs, needs}
 use Rattle.jd_grammar.specs.Promise.{Spells, SpellsWithin, IsPrefix, IsPrefixWithin}
-use Rattle.jd_grammar.proofs.Nesting.{close_height}
+use Rattle.jd_grammar.proofs.Under.{close_wrap}
 use Rattle.jd_grammar.proofs.ScriptSound.{IsRun}
 use Rattle.jd_grammar.proofs.ScriptFinish.{script, script_end}
 use Rattle.jd_grammar.proofs.ScriptNesting.{over, over_below, NoLess, run_needs, finish_depth, script_depth}
@@ -23,7 +23,7 @@ abbrev NoMore : ℕ → Whole → Type 0
 NoMore n (a_place p) = depth_place p ≤ n
 NoMore n w = n ≤ n
 
-with_exact : (n : ℕ) (b : Bottom) (r : List Frame × Syntax) → over b (height_all r.0 (height r.1)) ≤ n → NoMore n (with_expression b r)
+with_exact : (n : ℕ) (b : Bottom) (r : List Frame × Syntax) → over b (height (wrap r.0 r.1)) ≤ n → NoMore n (with_expression b r)
 with_exact n (in_lead l) ([], e) h = h
 with_exact n (in_header x d) ([], e) h = omega arith
 with_exact n (in_lead l) (_ ∷ fs, e) h = omega arith
@@ -43,7 +43,7 @@ got_begun (f ∷ fs) e = refl
 whole_exact : (b : Bottom) (fs : List Frame) (n : Now) → NoMore (mode_needs (at_expression b (record { frames = fs; now = n }))) (whole_at b fs n)
 whole_exact b fs wanted = without_exact (mode_needs (at_expression b (record { frames = fs; now = wanted }))) b fs
 whole_exact b fs (got e) = with_exact (mode_needs (at_expression b (have fs e))) b (close 0 fs e)
-    (subst (λ h. over b h ≤ mode_needs (at_expression b (have fs e))) (sym (close_height 0 fs e)) (over_below b (have fs e) (got_begun fs e)))
+    (subst (λ h. over b h ≤ mode_needs (at_expression b (have fs e))) (sym (ap height (close_wrap 0 fs e))) (over_below b (have fs e) (got_begun fs e)))
 whole_exact b fs (pending x) = omega arith
 
 mode_no_more : (m : Mode) → NoMore (mode_needs m) (whole_of m)

@@ -1,14 +1,17 @@
 -- Conditionals, atoms, comprehensions and channels: each step keeps the tokens and the order of a state.
-use Rattle.std.proofs.Common.{ℕ, ◌≡◌, ◌≤◌, ◌+◌, Bool, true, false, ◌&&◌, IsTrue, List, [], ◌∷◌, Option, Some, None, nat_le, if◌then◌else◌, refl, sym, ap, subst, ◌∙◌, arith}
+use Rattle.std.proofs.Common.{ℕ, ◌≡◌, ◌≤◌, ◌+◌, Bool, true, false, ◌&&◌, IsTrue, List, [], ◌∷◌, Option, Some, None, nat_le, nat_eq, if◌then◌else◌, refl, sym, ap, subst, ◌∙◌, arith}
 use Rattle.jd_grammar.specs.declared.token.Token.{Token}
 use Rattle.jd_grammar.specs.declared.token.Kind.{Kind}
-use Rattle.jd_grammar.specs.declared.token.Kind.TheVariants.{Number, Wide, Name, Minus, Colon, Comma, For, In, OpenParen, CloseParen, CloseBracket, CloseBrace}
+use Rattle.jd_grammar.specs.declared.token.Kind.TheVariants.{Number, Wide, Name, Minus, Colon, Comma, Semicolon, For, In, OpenParen, CloseParen, CloseBracket, CloseBrace}
 use Rattle.jd_grammar.specs.Kinds.{is_leaf, is_least, is_unary, is_minus, is_name, is_number, is_element_type}
-use Rattle.jd_grammar.specs.Grammar.{Channel, Syntax, leaf, ending, bracket, comprehension, remote, unary, choice, grouped, none, just, Generators, no_more, generator, put, put_generators, count, is_tight, is_atom, put_channel, IsChannel, IsAt, AreGenerators}
-use Rattle.jd_grammar.specs.Frames.{Hold, spawning, Fixed, in_middle, in_group, in_generator, in_size, in_place, Frame, open_end, fixed, Words, atoms, minus, generator_name, generator_in, element_type, type_end, size_begin, place_begin, State, want, have, await, demand}
-use Rattle.jd_grammar.specs.Machine.{filled, middle_step, group_step, atom_step, minus_step, with_generator, generator_name_step, generator_in_step, generator_step, element_type_step, type_end_step, size_begin_step, size_step, place_begin_step, place_step}
+use Rattle.jd_grammar.specs.Grammar.{Channel, Syntax, leaf, ending, bracket, matrix, comprehension, remote, Cells, unary, choice, grouped, none, just, Generators, no_more, generator, put, put_generators, count, is_tight, is_atom, is_spaced, is_full, put_channel, IsChannel, IsAt, AreGenerators}
+use Rattle.jd_grammar.specs.Rows.{with_cell, count_cells, first_width, last_width, most_atoms, are_even, are_begun, may_go_on}
+use Rattle.jd_grammar.specs.Frames.{Hold, spawning, rows, Fixed, in_middle, in_group, in_generator, in_size, in_place, Frame, open_end, fixed, Words, atoms, minus, generator_name, generator_in, element_type, type_end, size_begin, place_begin, State, want, have, await, demand}
+use Rattle.jd_grammar.specs.Machine.{filled, middle_step, takes, group_step, atom_step, next_row, rows_end, atoms_step, minus_step, with_generator, generator_name_step, generator_in_step, generator_step, element_type_step, type_end_step, size_begin_step, size_step, place_begin_step, place_step}
 use Rattle.jd_grammar.proofs.Invariant.{put_hold, put_fixed, put_frames, put_words, put_state, next_kind, IsHold, AreBegun, IsTyped, IsSized, IsFixed, AreFrames, IsWords, IsState, IsStep, MayStep, may_if}
 use Rattle.jd_grammar.proofs.Close.{weaken, le_of, touches_of}
+use Rattle.jd_grammar.proofs.RowFacts.{both, eq_of, even_cell, even_row, first_row, same_begun, many_with_cell}
+use Rattle.jd_grammar.proofs.RowSplit.{put_with_cell, are_with_cell, tight_leaf}
 use Rattle.jd_grammar.proofs.BracketSteps.{Stand}
 
 pub middle_ok : (s : State) (c : Syntax) (q t : Token) (fs : List Frame) (e : Syntax) → IsFixed fs (in_middle c q) → AreFrames fs → IsAt false false 3 e
@@ -23,13 +26,28 @@ pub record IsFilled (hold : Hold) (a : Syntax) (fs : List Frame) : Type 0 where
   pub state : IsState (filled hold a fs)
   pub tokens : (rest : List Token) → put_state (filled hold a fs) rest ≡ put_frames fs (put_hold hold (put a rest))
 
-filled_ok : (hold : Hold) (a : Syntax) (fs : List Frame) → IsHold fs hold → AreFrames fs → IsAt true false 9 a → IsTrue (is_atom a) → IsFilled hold a fs
-filled_ok (spawning s) a fs w v u i = record { state = record { frames = ((w.0, u, i), w.1, v); now = tt }; tokens = λ rest. refl }
+-- the cells may have one more
+pub added : (o : Token) (x : Syntax) (cells : Cells) (q : Option Token) (p : Token) (a : Syntax) (fs : List Frame) → IsHold fs (rows o x cells q) → IsTrue (takes (rows o x cells q) p) → IsAt true false 9 a → IsTrue (is_atom a) → is_spaced a ≡ p.spaced
+    → IsHold fs (rows o x (with_cell cells q a) None)
+added o x cells None p a fs w h u i z =
+    let b = both p.spaced (are_begun (with_cell cells None (leaf p))) h in
+    (w.0, w.1, w.2, are_with_cell cells None a w.3 u i (z ∙ b.0), even_cell 1 cells a w.4, same_begun cells None a (leaf p) ∙ b.1, many_with_cell cells None a)
+added o x cells (Some t) p a fs w h u i z =
+    let g = both (nat_eq (last_width 1 cells) (first_width 1 cells)) (nat_le (count_cells cells + 1 + first_width 1 cells) most_atoms) w.6.1 in
+    (w.0, w.1, w.2, are_with_cell cells (Some t) a w.3 u i w.6.0,
+      ap (λ n. are_even n 1 (with_cell cells (Some t) a)) (first_row 1 cells t a) ∙ even_row (first_width 1 cells) 1 cells t a w.4 (eq_of (last_width 1 cells) (first_width 1 cells) g.0),
+      same_begun cells (Some t) a (leaf p) ∙ h, many_with_cell cells (Some t) a)
+
+filled_ok : (hold : Hold) (p : Token) (a : Syntax) (fs : List Frame) → IsHold fs hold → IsTrue (takes hold p) → AreFrames fs → IsAt true false 9 a → IsTrue (is_atom a) → is_spaced a ≡ p.spaced → IsFilled hold a fs
+filled_ok (spawning s) p a fs w h v u i z = record { state = record { frames = ((w.0, u, i), w.1, v); now = tt }; tokens = λ rest. refl }
+filled_ok (rows o x cells q) p a fs w h v u i z = record {
+    state = record { frames = v; now = added o x cells q p a fs w h u i z };
+    tokens = λ rest. ap (λ ts. put_frames fs (o ∷ put x ts)) (put_with_cell cells q a rest) }
 
 pub group_ok : (s : State) (hold : Hold) (p t : Token) (fs : List Frame) (e : Syntax) → IsFixed fs (in_group hold p) → AreFrames fs → IsAt true false 1 e
     → Stand s t (in_group hold p) fs e → MayStep t s (group_step hold p t.kind t fs e)
 group_ok s hold p t fs e w v u h = elim t.kind as (λ k. t.kind ≡ k → MayStep t s (group_step hold p k t fs e)) [
-    CloseParen ↦ λ k. (let f = filled_ok hold (bracket grouped p none (just e) t) fs w.0 v (tt, w.1, tt, u, k, refl, touches_of true false 1 e t u (omega arith)) refl in
+    CloseParen ↦ λ k. (let f = filled_ok hold p (bracket grouped p none (just e) t) fs w.0 w.2 v (tt, w.1, tt, u, k, refl, touches_of true false 1 e t u (omega arith)) refl refl in
       record { state = f.state; tokens = λ rest. f.tokens rest ∙ h rest })
   | _ ↦ λ k. tt ] refl
 
@@ -37,37 +55,44 @@ number_leaf : (k : Kind) → is_number k ≡ true → is_leaf k ≡ true
 number_leaf (Number n) h = refl
 number_leaf _ h = cc
 
-name_leaf : (k : Kind) → is_name k ≡ true → is_leaf k ≡ true
-name_leaf (Name n) h = refl
-name_leaf _ h = cc
-
-leaf_filled : (hold : Hold) (t : Token) (fs : List Frame) → IsHold fs hold → AreFrames fs → is_leaf t.kind ≡ true → IsTrue (is_atom (leaf t)) → IsStep t (await fs (atoms hold)) (filled hold (leaf t) fs)
-leaf_filled hold t fs w v k i =
-    let f = filled_ok hold (leaf t) fs w v (ap (λ b. if b then true else false) k) i in
+leaf_filled : (hold : Hold) (t : Token) (fs : List Frame) → IsHold fs hold → IsTrue (takes hold t) → AreFrames fs → is_leaf t.kind ≡ true → IsTrue (is_atom (leaf t)) → IsStep t (await fs (atoms hold)) (filled hold (leaf t) fs)
+leaf_filled hold t fs w h v k i =
+    let f = filled_ok hold t (leaf t) fs w h v (ap (λ b. if b then true else false) k) i refl in
     record { state = f.state; tokens = f.tokens }
 
-pub atom_ok : (hold : Hold) (t : Token) (fs : List Frame) → IsHold fs hold → AreFrames fs → MayStep t (await fs (atoms hold)) (atom_step hold t.kind t fs)
-atom_ok hold t fs w v = elim t.kind as (λ k. t.kind ≡ k → MayStep t (await fs (atoms hold)) (atom_step hold k t fs)) [
-    Number n ↦ λ k. leaf_filled hold t fs w v (ap is_leaf k) (ap (λ x. if is_number x then true else is_name x) k)
-  | Name n ↦ λ k. leaf_filled hold t fs w v (ap is_leaf k) (ap (λ x. if is_number x then true else is_name x) k)
-  | Minus ↦ λ k. record { state = record { frames = v; now = (w, k) }; tokens = λ rest. refl }
-  | OpenParen ↦ λ k. record { state = record { frames = ((w, k), v); now = tt }; tokens = λ rest. refl }
+atom_ok : (hold : Hold) (t : Token) (fs : List Frame) → IsHold fs hold → IsTrue (takes hold t) → AreFrames fs → MayStep t (await fs (atoms hold)) (atom_step hold t.kind t fs)
+atom_ok hold t fs w h v = elim t.kind as (λ k. t.kind ≡ k → MayStep t (await fs (atoms hold)) (atom_step hold k t fs)) [
+    Number n ↦ λ k. leaf_filled hold t fs w h v (ap is_leaf k) (ap (λ x. if is_number x then true else is_name x) k)
+  | Name n ↦ λ k. leaf_filled hold t fs w h v (ap is_leaf k) (ap (λ x. if is_number x then true else is_name x) k)
+  | Minus ↦ λ k. record { state = record { frames = v; now = (w, k, h) }; tokens = λ rest. refl }
+  | OpenParen ↦ λ k. record { state = record { frames = ((w, k, h), v); now = tt }; tokens = λ rest. refl }
   | _ ↦ λ k. tt ] refl
 
--- an atom's number, with no blank between it and the `-`
-tight_leaf : (m t : Token) → m.kind ≡ Minus → is_tight t ≡ true → IsAt true false 9 (ending (unary m) (leaf t))
-tight_leaf m t k h = (omega arith, ap is_unary k, subst (λ x. IsTrue (if is_leaf t.kind then true else is_minus x && is_least t.kind t.spaced)) (sym k) (number (t.kind) t.spaced h))
+next_row_ok : (hold : Hold) (t : Token) (fs : List Frame) → t.kind ≡ Semicolon → IsHold fs hold → AreFrames fs → MayStep t (await fs (atoms hold)) (next_row hold t fs)
+next_row_ok (rows o x cells None) t fs k w v = may_if t (await fs (atoms (rows o x cells None))) (await fs (atoms (rows o x cells (Some t)))) (may_go_on cells) (λ h.
+    record { state = record { frames = v; now = (w.0, w.1, w.2, w.3, w.4, w.5, (k, h)) }; tokens = λ rest. refl })
+next_row_ok (rows o x cells (Some q)) t fs k w v = tt
+next_row_ok (spawning s) t fs k w v = tt
+
+rows_end_ok : (hold : Hold) (t : Token) (fs : List Frame) → t.kind ≡ CloseBracket → IsHold fs hold → AreFrames fs → MayStep t (await fs (atoms hold)) (rows_end hold t fs)
+rows_end_ok (rows o x cells None) t fs k w v = may_if t (await fs (atoms (rows o x cells None))) (have fs (matrix o x cells t)) (is_full cells) (λ h.
+    record { state = record { frames = v; now = (w.0, w.1, w.2, w.3, w.6, h, k) }; tokens = λ rest. refl })
+rows_end_ok (rows o x cells (Some q)) t fs k w v = tt
+rows_end_ok (spawning s) t fs k w v = tt
+
+pub atoms_ok : (hold : Hold) (t : Token) (fs : List Frame) → IsHold fs hold → AreFrames fs → MayStep t (await fs (atoms hold)) (atoms_step hold t.kind t fs)
+atoms_ok hold t fs w v = elim t.kind as (λ k. t.kind ≡ k → MayStep t s (if takes hold t then atom_step hold k t fs else None) → MayStep t s (atoms_step hold k t fs)) [
+    Semicolon ↦ λ k z. next_row_ok hold t fs k w v
+  | CloseBracket ↦ λ k z. rows_end_ok hold t fs k w v
+  | _ ↦ λ k z. z ] refl
+    (elim (takes hold t) as (λ b. takes hold t ≡ b → MayStep t s (if b then atom_step hold t.kind t fs else None)) [ true ↦ λ h. atom_ok hold t fs w h v | false ↦ λ h. tt ] refl)
   where
-  number : (k : Kind) (b : Bool) → (if b then false else (if is_number k then true else is_least k b)) ≡ true → IsTrue (if is_leaf k then true else is_least k b)
-  number (Number n) b h = refl
-  number (Wide g) false h = h
-  number (Wide g) true h = cc
-  number _ true h = cc
-  number _ false h = cc
+  s : State
+  s = await fs (atoms hold)
 
 pub minus_ok : (hold : Hold) (m t : Token) (fs : List Frame) → IsWords fs (minus hold m) → AreFrames fs → MayStep t (await fs (minus hold m)) (minus_step hold m t fs)
 minus_ok hold m t fs w v = may_if t (await fs (minus hold m)) (filled hold (ending (unary m) (leaf t)) fs) (is_tight t) (λ h.
-    let f = filled_ok hold (ending (unary m) (leaf t)) fs w.0 v (tight_leaf m t w.1 h) (ap (λ b. b && is_tight t) (ap is_minus w.1) ∙ h) in
+    let f = filled_ok hold m (ending (unary m) (leaf t)) fs w.0 w.2 v (tight_leaf m t w.1 h) (ap (λ x. is_minus x && is_tight t) w.1 ∙ h) refl in
     record { state = f.state; tokens = f.tokens })
 
 -- ---- comprehensions

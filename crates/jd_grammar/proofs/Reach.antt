@@ -6,12 +6,17 @@ use Rattle.jd_grammar.specs.declared.token.Word.TheVariants as word
 use Rattle.jd_grammar.specs.declared.token.Kind.{Kind}
 use Rattle.jd_grammar.specs.declared.token.Kind.TheVariants.{Number, Wide, Name, Minus, Question, Colon, Comma, Semicolon, Arrow, Assign, For, In, OpenParen, CloseParen, OpenBracket, CloseBracket, OpenBrace, CloseBrace}
 use Rattle.jd_grammar.specs.Kinds.{is_leaf, is_least, is_name, is_number, is_unary, is_minus, is_argument, is_spawn, strength, left, stands, is_word, is_element_type}
-use Rattle.jd_grammar.specs.Grammar.{Channel, Syntax, leaf, sign, ending, bracket, comprehension, remote, Head, unary, binary, choice, lambda, spawn, keyword, Bracket, grouped, called, itemed, indexed, Items, none, more, Maybe, nothing, just, Generators, no_more, generator, put, put_head, put_bracket, put_items, put_maybe, put_generators, put_channel, closes, opens, item_level, is_separator, is_shape, touches, last_touches, is_tight, is_atom, count, asks, level, is_negation, are_parameters, is_name_leaf, IsAt, IsHead, IsBracket, AreItems, IsAtMaybe, AreGenerators, IsChannel}
-use Rattle.jd_grammar.specs.Frames.{Hold, spawning, Fixed, in_bracket, in_middle, in_group, in_generator, in_size, in_place, Frame, open_end, fixed, Words, operator, atoms, minus, generator_name, generator_in, element_type, type_end, size_begin, place_begin, State, want, have, await, demand, demand_of, ranges, ranges_in, negated}
+use Rattle.jd_grammar.specs.Grammar.{Channel, Syntax, leaf, sign, ending, bracket, matrix, comprehension, remote, Head, unary, binary, choice, lambda, spawn, keyword, Bracket, grouped, called, itemed, indexed, Cells, no_cells, cell, row, Items, none, more, Maybe, nothing, just, Generators, no_more, generator, put, put_head, put_bracket, put_cells, put_items, put_maybe, put_generators, put_channel, closes, opens, item_level, is_separator, is_shape, touches, last_touches, is_tight, is_atom, is_spaced, is_row, are_many, is_full, count, asks, level, is_negation, are_parameters, is_name_leaf, IsAt, IsHead, IsBracket, AreCells, AreItems, IsAtMaybe, AreGenerators, IsChannel}
+use Rattle.jd_grammar.specs.Rows.{is_chain, with_cell, joined, first_of, cells_of}
+use Rattle.jd_grammar.specs.Frames.{Hold, spawning, rows, Fixed, in_bracket, in_middle, in_group, in_generator, in_size, in_place, Frame, open_end, fixed, Words, operator, atoms, minus, generator_name, generator_in, element_type, type_end, size_begin, place_begin, State, want, have, await, demand, demand_of, ranges, ranges_in, negated}
 use Rattle.jd_grammar.specs.Machine.{close, with_item, with_generator, item_step, bracket_step, want_step, filled, atom_step, minus_step, group_step, at_binary, at_question, at_arrow, at_keyword, at_end, fixed_step, generator_step, generator_name_step, generator_in_step, type_end_step, size_begin_step, size_step, place_begin_step, place_step, have_step, words_step, step}
 use Rattle.jd_grammar.proofs.Close.{test_le, test_gt, strength_le, level_asks, asks_le, demand_le, weaken, touches_of}
 use Rattle.jd_grammar.proofs.PartSteps.{count_with_generator}
-use Rattle.jd_grammar.proofs.Steps.{Follows, at_want, at_have, if_some, and_true, leaf_steps, unary_steps, spawn_steps, left_ge, left_le, strength_left, stays, binary_steps, question_steps, arrow_steps, keyword_steps, is_ender, ender_have, separator_ends, closer_ends, for_ends, comma_ends, item_steps, close_steps, empty_steps, sign_runs, plain_atom, minus_of}
+use Rattle.jd_grammar.proofs.Steps.{Follows, at_want, at_have, if_some, and_true, leaf_steps, unary_steps, spawn_steps, left_ge, left_le, strength_left, stays, binary_steps, question_steps, arrow_steps, keyword_steps, is_ender, ender_have, separator_ends, closer_ends, for_ends, comma_ends, item_steps, close_steps, empty_steps, sign_runs, leaf_atom, minus_atom, open_atom, minus_of}
+use Rattle.jd_grammar.proofs.RowFacts.{prefix_begun, prefix_goes}
+use Rattle.jd_grammar.proofs.RowSplit.{level_plain}
+use Rattle.jd_grammar.proofs.RowSteps.{whole as shape_whole}
+use Rattle.jd_grammar.proofs.RowSteps.{joined_none, joined_cell, joined_row, fits, spawn_fits, cell_fits, row_fits, next_row_runs, rows_end_runs, Shape, bare, behind_minus, difference, frames_of, last_of, with_call, call_chain, call_first, call_cells, call_runs, minus_chain, difference_chain, row_end_runs, second_runs, first_row_runs, minus_runs, number_runs}
 
 -- After the tokens of e the machine has e, but for what a token of the next strength ends.
 pub record IsReached (m : Follows) (n : ℕ) (fs : List Frame) (e : Syntax) (rest : List Token) : Type 0 where
@@ -28,6 +33,7 @@ is_sign (sign t) = true
 is_sign (leaf t) = false
 is_sign (ending h e) = false
 is_sign (bracket b o es last c) = false
+is_sign (matrix o a cells c) = false
 is_sign (comprehension o e gens c) = false
 is_sign (remote c type shut o size closes comma place last) = false
 
@@ -36,6 +42,7 @@ no_sign r g n (leaf t) w h = refl
 no_sign r g n (sign t) w h = absurd (omega (arith, w.0, h))
 no_sign r g n (ending d e) w h = refl
 no_sign r g n (bracket b o es last c) w h = refl
+no_sign r g n (matrix o a cells c) w h = refl
 no_sign r g n (comprehension o e gens c) w h = refl
 no_sign r g n (remote c type shut o size closes comma place last) w h = refl
 
@@ -124,6 +131,7 @@ item_runs m (sign u) (indexed f) o es fs w t k d s rest r = absurd (omega (arith
 item_runs m (leaf u) b o es fs w t k d s rest r = ends m (item_level b) (in_bracket b o es) fs (leaf u) t rest d (r refl) k s
 item_runs m (ending h e) b o es fs w t k d s rest r = ends m (item_level b) (in_bracket b o es) fs (ending h e) t rest d (r refl) k s
 item_runs m (bracket x p xs l c) b o es fs w t k d s rest r = ends m (item_level b) (in_bracket b o es) fs (bracket x p xs l c) t rest d (r refl) k s
+item_runs m (matrix p a cells c) b o es fs w t k d s rest r = ends m (item_level b) (in_bracket b o es) fs (matrix p a cells c) t rest d (r refl) k s
 item_runs m (comprehension p e gens c) b o es fs w t k d s rest r = ends m (item_level b) (in_bracket b o es) fs (comprehension p e gens c) t rest d (r refl) k s
 item_runs m (remote c a1 a2 a3 size a4 a5 place a6) b o es fs w t k d s rest r = ends m (item_level b) (in_bracket b o es) fs (remote c a1 a2 a3 size a4 a5 place a6) t rest d (r refl) k s
 
@@ -174,6 +182,32 @@ channel_runs m c type shut o fs rest w k s p =
     ∙ m.goes shut (o ∷ rest) (await fs (type_end c type)) (await fs (size_begin c type shut)) (ap (λ k. type_end_step c type k shut fs) s)
     ∙ m.goes o rest (await fs (size_begin c type shut)) (want (fixed (in_size c type shut o) ∷ fs)) (ap (λ k. size_begin_step c type shut k o fs) p)
 
+atom_chain : (t : Token) → is_atom (leaf t) ≡ true → is_chain (leaf t) ≡ true
+atom_chain t h = at t.kind h
+  where
+  at : (k : Kind) → (if is_number k then true else is_name k) ≡ true → (if is_number k then true else (if is_name k then true else is_least k t.spaced)) ≡ true
+  at (Number n) h = refl
+  at (Name n) h = refl
+  at _ h = cc
+
+atom_many : (a : Syntax) (cells : Cells) → IsTrue (is_atom a) → IsTrue (are_many cells) → IsTrue (are_many (joined (cells_of a) cells))
+atom_many (leaf t) cells i m = m
+atom_many (ending (unary t) (leaf n)) cells i m = m
+atom_many (bracket grouped o none (just e) c) cells i m = m
+atom_many _ cells i m = cc
+
+atom_cells : (a : Syntax) (cells : Cells) → IsTrue (is_atom a) → joined (cells_of a) cells ≡ cells
+atom_cells (leaf t) cells i = refl
+atom_cells (ending (unary t) (leaf n)) cells i = refl
+atom_cells (bracket grouped o none (just e) c) cells i = refl
+atom_cells _ cells i = cc
+
+atom_matrix : (o : Token) (a : Syntax) (cells : Cells) (c : Token) → IsTrue (is_atom a) → matrix o (first_of a) (joined (cells_of a) cells) c ≡ matrix o a cells c
+atom_matrix o (leaf t) cells c i = refl
+atom_matrix o (ending (unary t) (leaf n)) cells c i = refl
+atom_matrix o (bracket grouped p none (just e) z) cells c i = refl
+atom_matrix o _ cells c i = cc
+
 mutual
   pub reach : (m : Follows) (n : ℕ) (e : Syntax) (fs : List Frame) → IsAt (ranges fs) (negated fs) n e → is_sign e ≡ false → demand fs ≤ n → (rest : List Token) → IsReached m n fs e rest
   reach m n (leaf t) fs w g d rest = record { frames = fs; operand = leaf t; runs = m.goes t rest (want fs) (have fs (leaf t)) (leaf_steps t fs w); closes = λ p h k. refl; same = refl; exact = λ h. refl }
@@ -192,6 +226,15 @@ mutual
           ∙ reach_items m most b o none fs w.2 (put_maybe last (c ∷ rest))
           ∙ ap (λ es. m.run (put_maybe last (c ∷ rest)) (want (fixed (in_bracket b o es) ∷ fs))) (none_after most)
           ∙ reach_last m last b o most c fs w.3 w.4 w.5 w.6 rest;
+      closes = λ p h k. refl; same = refl; exact = λ h. refl }
+  reach m n (matrix o a cells c) fs w g d rest = record {
+      frames = fs; operand = matrix o a cells c;
+      runs = at_want m OpenBracket o fs (put a (put_cells cells (c ∷ rest))) (want (fixed (in_bracket itemed o none) ∷ fs)) w.0 refl
+          ∙ reach_first m a fs o w.1 w.2 (put_cells cells (c ∷ rest)) (m.run rest (have fs (matrix o a cells c)))
+              (λ s e q. reach_chain m cells s o c fs w.3 w.6 q
+                  (subst (λ y. IsTrue (are_many (joined (cells_of y) cells))) (sym e) (atom_many a cells w.2 w.4))
+                  (subst (λ y. is_full (joined (cells_of y) cells) ≡ true) (sym e) (ap is_full (atom_cells a cells w.2) ∙ w.5)) rest
+                ∙ ap (λ y. m.run rest (have fs (matrix o (first_of y) (joined (cells_of y) cells) c))) e ∙ ap (λ y. m.run rest (have fs y)) (atom_matrix o a cells c w.2));
       closes = λ p h k. refl; same = refl; exact = λ h. refl }
   reach m n (comprehension o e no_more c) fs w g d rest = absurd (omega (arith, w.3))
   reach m n (comprehension o e (generator t v i x gens) c) fs w g d rest =
@@ -236,23 +279,114 @@ mutual
       let a = reach m 10 ns fs w.0 (no_sign (ranges fs) (negated fs) 10 ns w.0 (omega arith)) (omega (arith, demand_le fs)) (t ∷ rest) in
       a.runs ∙ ap (m.run (t ∷ rest)) (a.exact (omega arith)) ∙ at_have m Arrow t fs ns rest (want (open_end (lambda ns t) ∷ fs)) w.2 (arrow_steps t fs ns d w.1)
   reach_head m (spawn t a) fs w d rest =
-      m.goes t (put a rest) (want fs) (await fs (atoms (spawning t))) (spawn_steps t fs w.0 d) ∙ reach_atom m a (spawning t) fs w.1 w.2 rest
+      m.goes t (put a rest) (want fs) (await fs (atoms (spawning t))) (spawn_steps t fs w.0 d) ∙ reach_atom m a (spawning t) fs w.1 w.2 (spawn_fits t a w.2) rest
   reach_head m (keyword n t) fs w d rest =
       leaf_runs m n fs (t ∷ rest) (name_leaf n.kind w.0) ∙ at_have m Assign t fs (leaf n) rest (want (open_end (keyword n t) ∷ fs)) w.1 (keyword_steps n t fs d w.0)
 
   -- an atom, where one is wanted
-  reach_atom : (m : Follows) (a : Syntax) (hold : Hold) (fs : List Frame) → IsAt true false 9 a → IsTrue (is_atom a) → (rest : List Token)
+  reach_atom : (m : Follows) (a : Syntax) (hold : Hold) (fs : List Frame) → IsAt true false 9 a → IsTrue (is_atom a) → fits hold a ≡ true → (rest : List Token)
       → m.run (put a rest) (await fs (atoms hold)) ≡ m.run rest (filled hold a fs)
-  reach_atom m (leaf t) hold fs w i rest = m.goes t rest (await fs (atoms hold)) (filled hold (leaf t) fs) (plain_atom hold t fs i)
-  reach_atom m (ending (unary t) (leaf n)) hold fs w i rest =
-      let b = both (is_minus t.kind) (is_tight n) i in
-      m.goes t (n ∷ rest) (await fs (atoms hold)) (await fs (minus hold t)) (ap (λ k. atom_step hold k t fs) (minus_of t.kind b.0))
-      ∙ m.goes n rest (await fs (minus hold t)) (filled hold (ending (unary t) (leaf n)) fs) (if_some (is_tight n) (filled hold (ending (unary t) (leaf n)) fs) b.1)
-  reach_atom m (bracket grouped o none (just e) c) hold fs w i rest =
+  reach_atom m (leaf t) hold fs w i f rest = leaf_atom m hold t fs rest i f
+  reach_atom m (ending (unary t) (leaf n)) hold fs w i f rest =
+      let b = both (is_minus t.kind) (is_tight n) i in minus_atom m hold t n fs rest (minus_of t.kind b.0) b.1 f
+  reach_atom m (bracket grouped o none (just e) c) hold fs w i f rest =
       let r = reach m 1 e (fixed (in_group hold o) ∷ fs) w.3 (no_sign true false 1 e w.3 (omega arith)) (omega arith) (c ∷ rest) in
-      m.goes o (put e (c ∷ rest)) (await fs (atoms hold)) (want (fixed (in_group hold o) ∷ fs)) (ap (λ k. atom_step hold k o fs) w.1)
+      open_atom m hold o fs (put e (c ∷ rest)) w.1 f
       ∙ ends m 1 (in_group hold o) fs e c rest (filled hold (bracket grouped o none (just e) c) fs) r (ap is_ender w.4 ∙ closer_ends grouped) (ap (λ k. group_step hold o k c fs e) w.4)
-  reach_atom m _ hold fs w i rest = cc
+  reach_atom m _ hold fs w i f rest = cc
+
+  -- the first atom of a matrix is read as an expression
+  reach_first : (m : Follows) (a : Syntax) (fs : List Frame) (o : Token) → IsAt true false 9 a → IsTrue (is_atom a) → (rest : List Token) (target : m.to)
+      → ((s : Shape) → shape_whole s ≡ a → is_chain (shape_whole s) ≡ true → m.run rest (have (frames_of s (fixed (in_bracket itemed o none) ∷ fs)) (last_of s)) ≡ target)
+      → m.run (put a rest) (want (fixed (in_bracket itemed o none) ∷ fs)) ≡ target
+  reach_first m (leaf t) fs o w i rest target go =
+      m.goes t rest (want (fixed (in_bracket itemed o none) ∷ fs)) (have (fixed (in_bracket itemed o none) ∷ fs) (leaf t)) (leaf_steps t (fixed (in_bracket itemed o none) ∷ fs) w)
+      ∙ go (bare (leaf t)) refl (atom_chain t i)
+  reach_first m (ending (unary t) (leaf n)) fs o w i rest target go =
+      let b = both (is_minus t.kind) (is_tight n) i in
+      m.goes t (n ∷ rest) (want (fixed (in_bracket itemed o none) ∷ fs)) (want (open_end (unary t) ∷ (fixed (in_bracket itemed o none) ∷ fs))) (unary_steps t (fixed (in_bracket itemed o none) ∷ fs) w.1)
+      ∙ m.goes n rest (want (open_end (unary t) ∷ (fixed (in_bracket itemed o none) ∷ fs))) (have (open_end (unary t) ∷ (fixed (in_bracket itemed o none) ∷ fs)) (leaf n)) (leaf_steps n (open_end (unary t) ∷ (fixed (in_bracket itemed o none) ∷ fs)) w.2)
+      ∙ go (behind_minus t (leaf n)) refl (minus_chain t n (minus_of t.kind b.0) b.1)
+  reach_first m (bracket grouped p none (just y) z) fs o w i rest target go =
+      let r = reach m 1 y (fixed (in_bracket grouped p none) ∷ (fixed (in_bracket itemed o none) ∷ fs)) w.3 (no_sign true false 1 y w.3 (omega arith)) (omega arith) (z ∷ rest) in
+      at_want m OpenParen p (fixed (in_bracket itemed o none) ∷ fs) (put y (z ∷ rest)) (want (fixed (in_bracket grouped p none) ∷ (fixed (in_bracket itemed o none) ∷ fs))) w.1 refl
+      ∙ ends m 1 (in_bracket grouped p none) (fixed (in_bracket itemed o none) ∷ fs) y z rest (have (fixed (in_bracket itemed o none) ∷ fs) (bracket grouped p none (just y) z)) r
+          (ap is_ender w.4 ∙ closer_ends grouped) (close_steps grouped p none z (fixed (in_bracket itemed o none) ∷ fs) y w.4 refl w.6)
+      ∙ go (bare (bracket grouped p none (just y) z)) refl refl
+  reach_first m _ fs o w i rest target go = cc
+
+  -- what the rest of a matrix makes of the atoms that were read as an expression
+  reach_chain : (m : Follows) (cells : Cells) (s : Shape) (o c : Token) (fs : List Frame) → AreCells cells → c.kind ≡ CloseBracket → is_chain (shape_whole s) ≡ true
+      → IsTrue (are_many (joined (cells_of (shape_whole s)) cells)) → is_full (joined (cells_of (shape_whole s)) cells) ≡ true → (rest : List Token)
+      → m.run (put_cells cells (c ∷ rest)) (have (frames_of s (fixed (in_bracket itemed o none) ∷ fs)) (last_of s)) ≡ m.run rest (have fs (matrix o (first_of (shape_whole s)) (joined (cells_of (shape_whole s)) cells) c))
+  reach_chain m no_cells s o c fs w k q y f rest =
+      let j = joined_none (cells_of (shape_whole s)) in
+      row_end_runs m s o c fs rest k q (subst (λ ds. IsTrue (are_many ds)) j y) (ap is_full (sym j) ∙ f)
+      ∙ ap (λ ds. m.run rest (have fs (matrix o (first_of (shape_whole s)) ds c))) (sym j)
+  reach_chain m (cell (leaf t) cells) s o c fs w k q y f rest =
+      let e = shape_whole s in
+      let j = joined_cell (cells_of (shape_whole s)) (leaf t) cells in
+      let g : is_full (joined (with_cell (cells_of (shape_whole s)) None (leaf t)) cells) ≡ true = ap is_full j ∙ f in
+      second_runs m s o t fs (put_cells cells (c ∷ rest)) w.1 q w.2 (prefix_begun (with_cell (cells_of (shape_whole s)) None (leaf t)) cells g)
+      ∙ reach_cells m cells o (first_of (shape_whole s)) (with_cell (cells_of (shape_whole s)) None (leaf t)) c fs w.3 k g rest
+      ∙ ap (λ ds. m.run rest (have fs (matrix o (first_of (shape_whole s)) ds c))) j
+  reach_chain m (cell (ending (unary t) (leaf n)) cells) s o c fs w k q y f rest =
+      let b = both (is_minus t.kind) (is_tight n) w.1 in
+      let a = ending (unary t) (leaf n) in
+      let ds = with_cell (cells_of (shape_whole s)) None (ending (unary t) (leaf n)) in
+      let i : joined (cells_of (ending (binary (shape_whole s) t) (leaf n))) cells ≡ joined (cells_of (shape_whole s)) (cell (ending (unary t) (leaf n)) cells) =
+          ap (λ ds. joined ds cells) (joined_none (with_cell (cells_of (shape_whole s)) None (ending (unary t) (leaf n)))) ∙ joined_cell (cells_of (shape_whole s)) (ending (unary t) (leaf n)) cells in
+      let j = joined_cell (cells_of (shape_whole s)) (ending (unary t) (leaf n)) cells in
+      let g : is_full (joined (with_cell (cells_of (shape_whole s)) None (ending (unary t) (leaf n))) cells) ≡ true = ap is_full j ∙ f in
+      minus_runs m s o t fs (n ∷ put_cells cells (c ∷ rest)) (minus_of t.kind b.0) q
+      ∙ number_runs m (shape_whole s) o t n fs (put_cells cells (c ∷ rest)) (m.run rest (have fs (matrix o (first_of (shape_whole s)) (joined (cells_of (shape_whole s)) (cell (ending (unary t) (leaf n)) cells)) c)))
+          (minus_of t.kind b.0) w.2 q b.1 (prefix_begun (with_cell (cells_of (shape_whole s)) None (ending (unary t) (leaf n))) cells g)
+          (reach_chain m cells (difference (shape_whole s) t (leaf n)) o c fs w.3 k (difference_chain (shape_whole s) t n q (minus_of t.kind b.0) w.2 b.1)
+              (subst (λ ds. IsTrue (are_many ds)) (sym i) y) (ap is_full i ∙ f) rest
+            ∙ ap (λ ds. m.run rest (have fs (matrix o (first_of (shape_whole s)) ds c))) i)
+          (reach_cells m cells o (first_of (shape_whole s)) (with_cell (cells_of (shape_whole s)) None (ending (unary t) (leaf n))) c fs w.3 k g rest
+            ∙ ap (λ ds. m.run rest (have fs (matrix o (first_of (shape_whole s)) ds c))) j)
+  reach_chain m (cell (bracket grouped p none (just x) z) cells) s o c fs w k q y f rest =
+      let gs = fixed (in_bracket itemed o none) ∷ fs in
+      let a = reach m 1 x (fixed (in_bracket (called (last_of s)) p none) ∷ frames_of s (fixed (in_bracket itemed o none) ∷ fs)) w.0.3 (no_sign true false 1 x w.0.3 (omega arith)) (omega arith) (z ∷ put_cells cells (c ∷ rest)) in
+      let j : joined (cells_of (shape_whole (with_call s p x z))) cells ≡ joined (cells_of (shape_whole s)) (cell (bracket grouped p none (just x) z) cells) =
+          ap (λ ds. joined ds cells) (call_cells s p x z) ∙ joined_cell (cells_of (shape_whole s)) (bracket grouped p none (just x) z) cells in
+      at_have m OpenParen p (frames_of s (fixed (in_bracket itemed o none) ∷ fs)) (last_of s) (put x (z ∷ put_cells cells (c ∷ rest))) (want (fixed (in_bracket (called (last_of s)) p none) ∷ frames_of s (fixed (in_bracket itemed o none) ∷ fs))) w.0.1 refl
+      ∙ ends m 1 (in_bracket (called (last_of s)) p none) (frames_of s (fixed (in_bracket itemed o none) ∷ fs)) x z (put_cells cells (c ∷ rest))
+          (have (frames_of s (fixed (in_bracket itemed o none) ∷ fs)) (bracket (called (last_of s)) p none (just x) z)) a (ap is_ender w.0.4 ∙ closer_ends grouped)
+          (close_steps (called (last_of s)) p none z (frames_of s (fixed (in_bracket itemed o none) ∷ fs)) x w.0.4 refl w.0.6)
+      ∙ call_runs m s p x z (fixed (in_bracket itemed o none) ∷ fs) (put_cells cells (c ∷ rest))
+      ∙ reach_chain m cells (with_call s p x z) o c fs w.3 k (call_chain s p x z q w.2 (level_plain true false 1 x (omega arith) w.0.3)) (subst (λ ds. IsTrue (are_many ds)) (sym j) y) (ap is_full j ∙ f) rest
+      ∙ ap (λ a. m.run rest (have fs (matrix o a (joined (cells_of (shape_whole (with_call s p x z))) cells) c))) (call_first s p x z)
+      ∙ ap (λ ds. m.run rest (have fs (matrix o (first_of (shape_whole s)) ds c))) j
+  reach_chain m (cell _ cells) s o c fs w k q y f rest = let h = w.1 in cc
+  reach_chain m (row t x cells) s o c fs w k q y f rest =
+      let j = joined_row (cells_of (shape_whole s)) t x cells in
+      let g : is_full (joined (with_cell (cells_of (shape_whole s)) (Some t) x) cells) ≡ true = ap is_full j ∙ f in
+      first_row_runs m s o t fs (put x (put_cells cells (c ∷ rest))) w.0 q (prefix_goes (cells_of (shape_whole s)) t x cells f)
+      ∙ reach_atom m x (rows o (first_of (shape_whole s)) (cells_of (shape_whole s)) (Some t)) fs w.1 w.2
+          (row_fits o (first_of (shape_whole s)) (cells_of (shape_whole s)) t x w.2 (prefix_begun (with_cell (cells_of (shape_whole s)) (Some t) x) cells g)) (put_cells cells (c ∷ rest))
+      ∙ reach_cells m cells o (first_of (shape_whole s)) (with_cell (cells_of (shape_whole s)) (Some t) x) c fs w.3 k g rest
+      ∙ ap (λ ds. m.run rest (have fs (matrix o (first_of (shape_whole s)) ds c))) j
+
+  reach_cells : (m : Follows) (cells : Cells) (o : Token) (a : Syntax) (ds : Cells) (c : Token) (fs : List Frame) → AreCells cells → c.kind ≡ CloseBracket → is_full (joined ds cells) ≡ true → (rest : List Token)
+      → m.run (put_cells cells (c ∷ rest)) (await fs (atoms (rows o a ds None))) ≡ m.run rest (have fs (matrix o a (joined ds cells) c))
+  reach_cells m no_cells o a ds c fs w k f rest =
+      let j = joined_none ds in
+      rows_end_runs m o a ds c fs rest k (ap is_full (sym j) ∙ f) ∙ ap (λ es. m.run rest (have fs (matrix o a es c))) (sym j)
+  reach_cells m (cell x cells) o a ds c fs w k f rest =
+      let j = joined_cell ds x cells in
+      let g : is_full (joined (with_cell ds None x) cells) ≡ true = ap is_full j ∙ f in
+      reach_atom m x (rows o a ds None) fs w.0 w.1 (cell_fits o a ds x w.1 w.2 (prefix_begun (with_cell ds None x) cells g)) (put_cells cells (c ∷ rest))
+      ∙ reach_cells m cells o a (with_cell ds None x) c fs w.3 k g rest
+      ∙ ap (λ es. m.run rest (have fs (matrix o a es c))) j
+  reach_cells m (row t x cells) o a ds c fs w k f rest =
+      let j = joined_row ds t x cells in
+      let g : is_full (joined (with_cell ds (Some t) x) cells) ≡ true = ap is_full j ∙ f in
+      next_row_runs m o a ds t fs (put x (put_cells cells (c ∷ rest))) w.0 (prefix_goes ds t x cells f)
+      ∙ reach_atom m x (rows o a ds (Some t)) fs w.1 w.2 (row_fits o a ds t x w.2 (prefix_begun (with_cell ds (Some t) x) cells g)) (put_cells cells (c ∷ rest))
+      ∙ reach_cells m cells o a (with_cell ds (Some t) x) c fs w.3 k g rest
+      ∙ ap (λ es. m.run rest (have fs (matrix o a es c))) j
 
   -- the beginning of a bracket
   reach_bracket : (m : Follows) (b : Bracket) (o : Token) (fs : List Frame) → IsBracket (ranges fs) (negated fs) b → o.kind ≡ opens b → (rest : List Token)
@@ -294,5 +428,5 @@ mutual
       → (rest : List Token) → m.run (put_maybe last (c ∷ rest)) (want (fixed (in_bracket b o es) ∷ fs)) ≡ m.run rest (have fs (bracket b o es last c))
   reach_last m nothing b o es c fs w k h g rest = m.goes c rest (want (fixed (in_bracket b o es) ∷ fs)) (have fs (bracket b o es nothing c)) (empty_steps b o es c fs k h)
   reach_last m (just e) b o es c fs w k h g rest =
-      item_runs m e b o es fs w c (ap is_ender k ∙ closer_ends b) (have fs (bracket b o es (just e) c)) (close_steps b o es c fs e k g) rest
+      item_runs m e b o es fs w c (ap is_ender k ∙ closer_ends b) (have fs (bracket b o es (just e) c)) (close_steps b o es c fs e k h g) rest
         (λ g. reach m (item_level b) e (fixed (in_bracket b o es) ∷ fs) w g (omega arith) (c ∷ rest))

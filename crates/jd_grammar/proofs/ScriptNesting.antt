@@ -9,8 +9,8 @@ use Rattle.jd_grammar.specs.Frames.{Frame, open_end, fixed, Now, wanted, got, pe
 use Rattle.jd_grammar.specs.Machine as expression
 use Rattle.jd_grammar.specs.Machine.{close}
 use Rattle.jd_grammar.specs.Depth.{height, height_items, height_maybe}
-use Rattle.jd_grammar.specs.Needs as least
-use Rattle.jd_grammar.specs.Needs.{height_all}
+use Rattle.jd_grammar.specs.Shortest as least
+use Rattle.jd_grammar.specs.Shortest.{wrap, whole}
 use Rattle.jd_grammar.specs.Script.{is_fresh as is_fresh_name}
 use Rattle.jd_grammar.specs.Script.{Parameters, no_parameters, first, next, Signature, Packages, using_first, using_next, Lead, bare, assigned, updated, defined, defined_everywhere, returned, Target, no_target, target, Header, while_head, if_head, elseif_head, for_head, distributed_head, Opening, headed, else_open, try_open, catch_open, catch_name, function_open, Stmt, ended, alone, packages, packages_everywhere, blocks, Prior, begun, Before, fresh, behind, Block, block, Lines, no_lines, line, Place, empty, stmt, Role, starting, conditional, trying, settled, role_of, may_end, is_separator, is_in, is_reducer, is_package, is_signature, are_commas, Scope, IsBlock, outermost}
 use Rattle.jd_grammar.specs.Reader.{is_open, is_close, is_for, is_assign, Outer, Context, Bottom, in_lead, in_header, Owner, of_function, of_everywhere, Awaited, for_name, for_in, distributed_open, distributed_reducer, distributed_close, distributed_for, distributed_name, distributed_in, function_name, signature_open, signature_first, signature_next, signature_name, signature_end, everywhere, everywhere_package, package_first, package_next, catch_words, catch_named, Mode, at_expression, at_words, complete, Config, beginning, start, scope, Whole, nothing_whole, a_place, a_header, with_expression, without_expression, whole_at, at_line, open_block, leave, in_outer, end_block, is_conditional, is_trying, elseif_block, else_block, catch_block, separator_step, at_place, ending_step, go, only_if, begin_step, value_step, assign_step, update_step, target_step, statement_step, close_signature, first_step, next_step, everywhere_step, catch_step, words_step, complete_step, either, mode_step, step, and_then, run, whole_of, finish_place, finish}
@@ -18,11 +18,11 @@ use Rattle.jd_grammar.specs.ScriptDepth.{lead_weight, target_weight, header_weig
 use Rattle.jd_grammar.proofs.Invariant.{IsState, IsStep, MayStep, both}
 use Rattle.jd_grammar.proofs.Sound.{step_ok}
 use Rattle.jd_grammar.proofs.Nesting as least_needs
-use Rattle.jd_grammar.proofs.Nesting.{close_height, step_needs, whole_height}
+use Rattle.jd_grammar.proofs.Nesting.{step_needs}
+use Rattle.jd_grammar.proofs.Under.{close_wrap}
 use Rattle.jd_grammar.proofs.Begun as begun_lemmas
 use Rattle.jd_grammar.proofs.Context.{IsMode, IsContext, IsConfig, MayGo, IsNext}
 use Rattle.jd_grammar.proofs.ScriptSound.{next_config}
-use Rattle.jd_grammar.proofs.Finish.{whole}
 use Rattle.jd_grammar.proofs.ScriptFinish.{bare_end, return_end, expression_end, owned, a_signature, opens_with, new_name, words_end, mode_end, shut, shut_blocks, script}
 
 -- ---- depths grow with what stands inside
@@ -79,7 +79,7 @@ over_below (in_lead (defined_everywhere e g t)) s h = omega arith
 over_below (in_lead (returned t)) s h = subst (λ b. 1 + least.needs s ≤ (if b then 0 else 1 + least.needs s)) (sym h) (omega arith)
 over_below (in_header x d) s h = omega arith
 
-with_needs : (n : ℕ) (b : Bool) (t : Bottom) (r : List Frame × Syntax) → n ≤ over t (height_all r.0 (height r.1)) → WholeNeeds n b (with_expression t r)
+with_needs : (n : ℕ) (b : Bool) (t : Bottom) (r : List Frame × Syntax) → n ≤ over t (height (wrap r.0 r.1)) → WholeNeeds n b (with_expression t r)
 with_needs n b (in_lead l) ([], e) h = (h, λ k. refl)
 with_needs n b (in_header x d) ([], e) h = h
 with_needs n b (in_lead l) (_ ∷ fs, e) h = tt
@@ -99,7 +99,7 @@ without_needs (in_header x h) fs = tt
 whole_needs : (b : Bottom) (fs : List Frame) (n : Now) → WholeNeeds (mode_needs (at_expression b (record { frames = fs; now = n }))) (has_begun (at_expression b (record { frames = fs; now = n }))) (whole_at b fs n)
 whole_needs b fs wanted = without_needs b fs
 whole_needs b fs (got e) = with_needs (mode_needs (at_expression b (have fs e))) (has_begun (at_expression b (have fs e))) b (close 0 fs e)
-    (omega (arith, below_over b (have fs e), over_grows b (height_all fs (height e)) (height_all (close 0 fs e).0 (height (close 0 fs e).1)) (omega (arith, close_height 0 fs e))))
+    (omega (arith, below_over b (have fs e), over_grows b (height (wrap fs e)) (height (wrap (close 0 fs e).0 (close 0 fs e).1)) (omega (arith, ap height (close_wrap 0 fs e)))))
 whole_needs b fs (pending x) = tt
 
 -- ---- no step lowers it
@@ -338,7 +338,7 @@ either_needs t ctx b s None h v = statement_needs t.kind t ctx b s.frames s.now
 either_needs t ctx b s (Some d) h v = expression_needs ctx b s d h (begun_lemmas.begun t s d v)
 
 mode_step_needs : (t : Token) (ctx : Context) (m : Mode) → IsMode (scope ctx.outer) m → NoLess (needs (go ctx m)) (mode_step m t ctx)
-mode_step_needs t ctx (at_expression b s) w = either_needs t ctx b s (expression.step t s) (step_needs t s) (step_ok t s w.1)
+mode_step_needs t ctx (at_expression b s) w = either_needs t ctx b s (expression.step t s) (step_needs t s w.1) (step_ok t s w.1)
 mode_step_needs t ctx (at_words x) w = words_needs x t ctx
 mode_step_needs t ctx (complete s) w = complete_needs t.kind t ctx s
 
@@ -400,23 +400,20 @@ record IsExact (m : Mode) (p : Place) : Type 0 where
 
 bare_exact : (fs : List Frame) (n : Now) → IsState (record { frames = fs; now = n }) → IsExact (at_state (in_lead bare) fs n) (bare_end fs n).place
 bare_exact [] wanted w = record { depth = refl; begun = refl }
-bare_exact fs n w = record { depth = ap (λ h. 0 + h) (whole_height (record { frames = fs; now = n }) w); begun = refl }
+bare_exact fs n w = record { depth = refl; begun = refl }
 
 return_exact : (t : Token) (fs : List Frame) (n : Now) → IsState (record { frames = fs; now = n }) → IsExact (at_state (in_lead (returned t)) fs n) (return_end t fs n).place
 return_exact t [] wanted w = record { depth = refl; begun = refl }
-return_exact t fs n w = record { depth = ap (λ h. 1 + h) (whole_height (record { frames = fs; now = n }) w); begun = refl }
-
-lead_exact : (n : ℕ) (s : State) → IsState s → n + height (whole s) ≡ n + least.needs s
-lead_exact n s w = ap (λ h. n + h) (whole_height s w)
+return_exact t fs n w = record { depth = refl; begun = refl }
 
 expression_exact : (b : Bottom) (s : State) → IsState s → IsExact (at_expression b s) (expression_end b s).place
 expression_exact (in_lead bare) s w = bare_exact s.frames s.now w
 expression_exact (in_lead (returned t)) s w = return_exact t s.frames s.now w
-expression_exact (in_lead (assigned n t)) s w = record { depth = lead_exact 1 s w; begun = refl }
-expression_exact (in_lead (updated n t)) s w = record { depth = lead_exact 1 s w; begun = refl }
-expression_exact (in_lead (defined d t)) s w = record { depth = lead_exact 1 s w; begun = refl }
-expression_exact (in_lead (defined_everywhere e g t)) s w = record { depth = lead_exact 1 s w; begun = refl }
-expression_exact (in_header x h) s w = record { depth = omega (arith, whole_height s w); begun = refl }
+expression_exact (in_lead (assigned n t)) s w = record { depth = refl; begun = refl }
+expression_exact (in_lead (updated n t)) s w = record { depth = refl; begun = refl }
+expression_exact (in_lead (defined d t)) s w = record { depth = refl; begun = refl }
+expression_exact (in_lead (defined_everywhere e g t)) s w = record { depth = refl; begun = refl }
+expression_exact (in_header x h) s w = record { depth = omega arith; begun = refl }
 
 owned_exact : (w : Owner) (g : Signature) → depth_stmt (owned w g) ≡ 1
 owned_exact (of_function every t) g = refl

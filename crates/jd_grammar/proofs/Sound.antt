@@ -5,14 +5,16 @@ use Rattle.jd_grammar.specs.declared.token.Token.{Token}
 use Rattle.jd_grammar.specs.declared.token.Word.TheVariants as word
 use Rattle.jd_grammar.specs.declared.token.Kind.{Kind}
 use Rattle.jd_grammar.specs.declared.token.Kind.TheVariants.{Number, Wide, Text, Name, True, False, Nothing, OrElse, AndAlso, Colon, SpawnAt, FetchFrom, Plus, Minus, Star, And, Or, Xor, Not, Complement, Question, Arrow, Assign, OpenParen, CloseParen, OpenBracket, OpenBrace}
-use Rattle.jd_grammar.specs.Kinds.{is_leaf, is_least, is_name, is_unary, is_argument, is_spawn, strength, left, stands, is_word}
-use Rattle.jd_grammar.specs.Grammar.{Channel, Syntax, leaf, sign, ending, bracket, comprehension, remote, unary, binary, choice, lambda, spawn, keyword, Bracket, grouped, called, itemed, indexed, Items, none, more, nothing, just, put, is_name_leaf, name_of, are_parameters, IsAt}
-use Rattle.jd_grammar.specs.Frames.{Hold, spawning, Fixed, in_bracket, in_middle, in_group, in_generator, in_size, in_place, Frame, open_end, fixed, Words, operator, atoms, minus, generator_name, generator_in, element_type, type_end, size_begin, place_begin, Now, wanted, got, pending, State, want, have, await, demand, demand_of, ranges, ranges_in, negated}
+use Rattle.jd_grammar.specs.Kinds.{is_leaf, is_least, is_name, is_number, is_unary, is_minus, is_argument, is_spawn, strength, left, stands, is_word}
+use Rattle.jd_grammar.specs.Grammar.{Channel, Syntax, leaf, sign, ending, bracket, comprehension, remote, unary, binary, choice, lambda, spawn, keyword, Bracket, grouped, called, itemed, indexed, Items, none, more, nothing, just, put, is_name_leaf, name_of, are_parameters, is_tight, IsAt}
+use Rattle.jd_grammar.specs.Rows.{is_chain, first_of, cells_of, with_cell, are_begun}
+use Rattle.jd_grammar.specs.Frames.{Hold, spawning, rows, Fixed, in_bracket, in_middle, in_group, in_generator, in_size, in_place, Frame, open_end, fixed, Words, operator, atoms, minus, generator_name, generator_in, element_type, type_end, size_begin, place_begin, Now, wanted, got, pending, State, want, have, await, demand, demand_of, ranges, ranges_in, negated}
 use Rattle.jd_grammar.specs.Machine.{close, bracket_step, want_end, operator_step, spawn_step, wide_step, want_step, at_binary, at_question, at_arrow, at_keyword, at_brace, fixed_step, at_end, have_more, have_step, words_step, step_at, step}
 use Rattle.jd_grammar.proofs.Invariant.{put_fixed, put_frames, put_state, IsFixed, AreFrames, IsCall, IsWords, IsNow, IsState, IsStep, MayStep, may_if, both}
 use Rattle.jd_grammar.proofs.Close.{le_of, weaken, demand_le, close_put, IsClosed, closed}
-use Rattle.jd_grammar.proofs.BracketSteps.{Stand, bracket_ok, want_end_ok, operator_ok}
-use Rattle.jd_grammar.proofs.PartSteps.{middle_ok, group_ok, atom_ok, minus_ok, generator_ok, generator_name_ok, generator_in_ok, element_type_ok, type_end_ok, size_begin_ok, size_ok, place_begin_ok, place_ok}
+use Rattle.jd_grammar.proofs.RowSplit.{put_with_cell, split, minus_of, tight_leaf}
+use Rattle.jd_grammar.proofs.BracketSteps.{Stand, committed, bracket_ok, want_end_ok, operator_ok}
+use Rattle.jd_grammar.proofs.PartSteps.{middle_ok, group_ok, atoms_ok, minus_ok, generator_ok, generator_name_ok, generator_in_ok, element_type_ok, type_end_ok, size_begin_ok, size_ok, place_begin_ok, place_ok}
 
 -- ---- where an operand is wanted
 
@@ -23,7 +25,32 @@ or_least : (a b : Bool) → b ≡ true → (if a then true else b) ≡ true
 or_least true b h = refl
 or_least false b h = h
 
+-- the number fixes the bracket as a matrix
+wide_cell : (t m : Token) (l : Syntax) (o : Token) (fs : List Frame) → IsState (want (open_end (binary l m) ∷ (fixed (in_bracket itemed o none) ∷ fs)))
+    → MayStep t (want (open_end (binary l m) ∷ (fixed (in_bracket itemed o none) ∷ fs))) (wide_step t (open_end (binary l m) ∷ (fixed (in_bracket itemed o none) ∷ fs)))
+wide_cell t m l o fs w =
+    may_if t (want (open_end (binary l m) ∷ (fixed (in_bracket itemed o none) ∷ fs))) (await fs (atoms (rows o (first_of l) (with_cell (cells_of l) None (ending (unary m) (leaf t))) None)))
+      (((is_minus m.kind && m.spaced) && (is_least t.kind t.spaced && is_chain l)) && are_begun (with_cell (cells_of l) None (ending (unary m) (leaf t)))) (λ h.
+        let a = both ((is_minus m.kind && m.spaced) && (is_least t.kind t.spaced && is_chain l)) (are_begun (with_cell (cells_of l) None (ending (unary m) (leaf t)))) h in
+        let b = both (is_minus m.kind && m.spaced) (is_least t.kind t.spaced && is_chain l) a.0 in
+        let c = both (is_minus m.kind) m.spaced b.0 in
+        let d = both (is_least t.kind t.spaced) (is_chain l) b.1 in
+        let p = split l true false (left m.kind) d.1 w.frames.0.2 in
+        let k = minus_of m.kind c.0 in
+        let g : is_tight t ≡ true = least_tight t.kind t.spaced d.0 in
+        record {
+          state = record { frames = w.frames.2.1; now = committed o l None (ending (unary m) (leaf t)) fs w.frames.2.0.1 p (tight_leaf m t k g) (ap (λ x. is_minus x && is_tight t) k ∙ g) c.1 a.1 };
+          tokens = λ rest. ap (λ ts. put_frames fs (o ∷ put (first_of l) ts)) (put_with_cell (cells_of l) None (ending (unary m) (leaf t)) rest)
+              ∙ ap (λ ts. put_frames fs (o ∷ ts)) (sym (p.tokens (m ∷ t ∷ rest))) })
+  where
+  least_tight : (k : Kind) (b : Bool) → is_least k b ≡ true → (if b then false else (if is_number k then true else is_least k b)) ≡ true
+  least_tight (Wide g) false h = h
+  least_tight (Wide true) true h = cc
+  least_tight (Wide false) true h = cc
+  least_tight _ b h = cc
+
 wide_ok : (t : Token) (fs : List Frame) → IsState (want fs) → MayStep t (want fs) (wide_step t fs)
+wide_ok t (open_end (binary l m) ∷ (fixed (in_bracket itemed o none) ∷ fs)) w = wide_cell t m l o fs w
 wide_ok t fs w = may_if t (want fs) (have fs (leaf t)) (negated fs && is_least t.kind t.spaced) (λ h.
     record { state = record { frames = w.frames; now = or_least (is_leaf t.kind) (negated fs && is_least t.kind t.spaced) h }; tokens = λ rest. refl })
 
@@ -146,7 +173,7 @@ sign_ok s t _ w = tt
 
 words_ok : (x : Words) (t : Token) (fs : List Frame) → IsState (await fs x) → MayStep t (await fs x) (words_step x t fs)
 words_ok (operator s) t fs w = sign_ok s t fs w
-words_ok (atoms hold) t fs w = atom_ok hold t fs w.now w.frames
+words_ok (atoms hold) t fs w = atoms_ok hold t fs w.now w.frames
 words_ok (minus hold m) t fs w = minus_ok hold m t fs w.now w.frames
 words_ok (generator_name o x gens f) t fs w = generator_name_ok o x gens f t fs w.now w.frames
 words_ok (generator_in o x gens f n) t fs w = generator_in_ok o x gens f n t fs w.now w.frames

@@ -5,8 +5,8 @@ use Rattle.jd_grammar.specs.declared.token.Kind.{Kind}
 use Rattle.jd_grammar.specs.declared.token.Kind.TheVariants.{Number, Wide, Text, Name, True, False, Nothing, SpawnAt, FetchFrom, Plus, Minus, Star, Divide, Percent, And, Or, Xor, Not, Complement, Equal, Unequal, Less, LessEqual, Greater, GreaterEqual, AndAlso, OrElse, Question, Colon, Comma, Semicolon, Arrow, Assign, For, OpenParen, CloseParen, OpenBracket, CloseBracket}
 use Rattle.jd_grammar.specs.Kinds.{is_leaf, is_least, is_name, is_number, is_unary, is_minus, is_argument, is_spawn, strength, left, stands}
 use Rattle.jd_grammar.specs.Grammar.{Syntax, leaf, sign, ending, bracket, comprehension, remote, Head, unary, binary, choice, lambda, spawn, keyword, Bracket, grouped, called, itemed, indexed, Items, none, more, Maybe, nothing, just, put, closes, item_level, is_separator, is_shape, touches, is_tight, asks, level, are_parameters, IsAt}
-use Rattle.jd_grammar.specs.Frames.{Hold, spawning, Fixed, in_bracket, in_middle, Frame, open_end, fixed, Words, operator, atoms, minus, State, want, have, await, demand, ranges, negated}
-use Rattle.jd_grammar.specs.Machine.{close, with_item, is_closer, item_step, close_step, bracket_step, empty_step, want_end, operator_step, spawn_step, want_step, filled, atom_step, minus_step, at_binary, at_question, at_arrow, at_keyword, at_end, have_more, have_step, words_step, step}
+use Rattle.jd_grammar.specs.Frames.{Hold, spawning, Fixed, in_bracket, in_middle, in_group, Frame, open_end, fixed, Words, operator, atoms, minus, State, want, have, await, demand, ranges, negated}
+use Rattle.jd_grammar.specs.Machine.{close, with_item, is_closer, item_step, row_end, close_step, bracket_step, empty_step, want_end, operator_step, spawn_step, wide_step, want_step, filled, takes, atom_step, atoms_step, minus_step, at_binary, at_question, at_arrow, at_keyword, at_end, have_more, have_step, words_step, step}
 use Rattle.jd_grammar.proofs.Close.{test_le, test_gt, strength_le}
 
 -- what follows the machine's steps, as a run of it does
@@ -30,8 +30,15 @@ and_false false h = cc
 pub if_some : (b : Bool) (d : State) → b ≡ true → (if b then Some d else None) ≡ Some d
 if_some b d h = ap (λ x. if x then Some d else None) h
 
+pub if_else : (b : Bool) (d : State) (o : Option State) → b ≡ true → (if b then Some d else o) ≡ Some d
+if_else b d o h = ap (λ x. if x then Some d else o) h
+
 pub and_true : (a b : Bool) → a ≡ true → b ≡ true → (a && b) ≡ true
 and_true a b h k = ap (λ x. x && b) h ∙ k
+
+wide_leaf : (t : Token) (fs : List Frame) → (negated fs && is_least t.kind t.spaced) ≡ true → wide_step t fs ≡ Some (have fs (leaf t))
+wide_leaf t (open_end (binary l m) ∷ (fixed (in_bracket itemed o none) ∷ fs)) h = cc
+wide_leaf t fs h = if_some (negated fs && is_least t.kind t.spaced) (have fs (leaf t)) h
 
 pub leaf_steps : (t : Token) (fs : List Frame) → IsTrue (if is_leaf t.kind then true else negated fs && is_least t.kind t.spaced) → want_step t.kind t fs ≡ Some (have fs (leaf t))
 leaf_steps t fs = elim t.kind as (λ k. (k ≡ t.kind) → IsTrue (if is_leaf k then true else negated fs && is_least k t.spaced) → want_step k t fs ≡ Some (have fs (leaf t))) [
@@ -41,7 +48,7 @@ leaf_steps t fs = elim t.kind as (λ k. (k ≡ t.kind) → IsTrue (if is_leaf k 
   | True ↦ λ k h. refl
   | False ↦ λ k h. refl
   | Nothing ↦ λ k h. refl
-  | Wide b ↦ λ k h. if_some (negated fs && is_least t.kind t.spaced) (have fs (leaf t)) (ap (λ x. negated fs && is_least x t.spaced) (sym k) ∙ h)
+  | Wide b ↦ λ k h. wide_leaf t fs (ap (λ x. negated fs && is_least x t.spaced) (sym k) ∙ h)
   | _ ↦ λ k h. absurd (and_false (negated fs) h) ] refl
 
 pub unary_steps : (t : Token) (fs : List Frame) → IsTrue (is_unary t.kind) → want_step t.kind t fs ≡ Some (want (open_end (unary t) ∷ fs))
@@ -169,8 +176,8 @@ closer_of (indexed f) = refl
 
 separator_step : (b : Bracket) (o : Token) (es : Items) (k : Kind) (t : Token) (fs : List Frame) (e : Syntax) → is_separator b k ≡ true → bracket_step b o es k t fs e ≡ item_step b o es t fs e
 separator_step b o es Comma t fs e h = refl
-separator_step b o es Semicolon t fs e h = refl
-separator_step b o es _ t fs e h = cc
+separator_step (called f) o es Semicolon t fs e h = refl
+separator_step _ o es _ t fs e h = cc
 
 pub item_steps : (b : Bracket) (o : Token) (es : Items) (t : Token) (fs : List Frame) (e : Syntax) → is_separator b t.kind ≡ true → touches e t ≡ true
     → bracket_step b o es t.kind t fs e ≡ Some (want (fixed (in_bracket b o (with_item es e t)) ∷ fs))
@@ -183,10 +190,11 @@ closer_step (called f) o es t fs e = refl
 closer_step itemed o es t fs e = refl
 closer_step (indexed f) o es t fs e = refl
 
-pub close_steps : (b : Bracket) (o : Token) (es : Items) (t : Token) (fs : List Frame) (e : Syntax) → t.kind ≡ closes b → touches e t ≡ true
+pub close_steps : (b : Bracket) (o : Token) (es : Items) (t : Token) (fs : List Frame) (e : Syntax) → t.kind ≡ closes b → is_shape b es (just e) ≡ true → touches e t ≡ true
     → bracket_step b o es t.kind t fs e ≡ Some (have fs (bracket b o es (just e) t))
-close_steps b o es t fs e h k = ap (λ x. bracket_step b o es x t fs e) h ∙ closer_step b o es t fs e
-    ∙ if_some (is_closer b t.kind && touches e t) (have fs (bracket b o es (just e) t)) (and_true (is_closer b t.kind) (touches e t) (ap (is_closer b) h ∙ closer_of b) k)
+close_steps b o es t fs e h g k = ap (λ x. bracket_step b o es x t fs e) h ∙ closer_step b o es t fs e
+    ∙ ap (λ x. if x then (if is_shape b es (just e) then Some (have fs (bracket b o es (just e) t)) else row_end o t fs e) else None) (and_true (is_closer b t.kind) (touches e t) (ap (is_closer b) h ∙ closer_of b) k)
+    ∙ if_else (is_shape b es (just e)) (have fs (bracket b o es (just e) t)) (row_end o t fs e) g
 
 pub empty_steps : (b : Bracket) (o : Token) (es : Items) (t : Token) (fs : List Frame) → t.kind ≡ closes b → is_shape b es nothing ≡ true
     → want_step t.kind t (fixed (in_bracket b o es) ∷ fs) ≡ Some (have fs (bracket b o es nothing t))
@@ -212,9 +220,22 @@ sign_runs m u t f o es fs rest d a h s = elim u.kind as (λ k. u.kind ≡ k → 
 
 -- ---- atoms
 
-pub plain_atom : (hold : Hold) (t : Token) (fs : List Frame) → (if is_number t.kind then true else is_name t.kind) ≡ true → atom_step hold t.kind t fs ≡ Some (filled hold (leaf t) fs)
-plain_atom hold t fs = elim t.kind as (λ k. (if is_number k then true else is_name k) ≡ true → atom_step hold k t fs ≡ Some (filled hold (leaf t) fs)) [
-    Number n ↦ λ h. refl | Name n ↦ λ h. refl | _ ↦ λ h. cc ]
+plain_atom : (hold : Hold) (t : Token) (fs : List Frame) → (if is_number t.kind then true else is_name t.kind) ≡ true → takes hold t ≡ true → atoms_step hold t.kind t fs ≡ Some (filled hold (leaf t) fs)
+plain_atom hold t fs h k = elim t.kind as (λ k. (if is_number k then true else is_name k) ≡ true → atoms_step hold k t fs ≡ Some (filled hold (leaf t) fs)) [
+    Number n ↦ λ h. if_some (takes hold t) (filled hold (leaf t) fs) k | Name n ↦ λ h. if_some (takes hold t) (filled hold (leaf t) fs) k | _ ↦ λ h. cc ] h
+
+pub leaf_atom : (m : Follows) (hold : Hold) (t : Token) (fs : List Frame) (rest : List Token) → (if is_number t.kind then true else is_name t.kind) ≡ true → takes hold t ≡ true
+    → m.run (t ∷ rest) (await fs (atoms hold)) ≡ m.run rest (filled hold (leaf t) fs)
+leaf_atom m hold t fs rest h k = m.goes t rest (await fs (atoms hold)) (filled hold (leaf t) fs) (plain_atom hold t fs h k)
+
+pub minus_atom : (m : Follows) (hold : Hold) (t n : Token) (fs : List Frame) (rest : List Token) → t.kind ≡ Minus → is_tight n ≡ true → takes hold t ≡ true
+    → m.run (t ∷ n ∷ rest) (await fs (atoms hold)) ≡ m.run rest (filled hold (ending (unary t) (leaf n)) fs)
+minus_atom m hold t n fs rest k h g =
+    m.goes t (n ∷ rest) (await fs (atoms hold)) (await fs (minus hold t)) (ap (λ x. atoms_step hold x t fs) k ∙ if_some (takes hold t) (await fs (minus hold t)) g)
+    ∙ m.goes n rest (await fs (minus hold t)) (filled hold (ending (unary t) (leaf n)) fs) (if_some (is_tight n) (filled hold (ending (unary t) (leaf n)) fs) h)
+
+pub open_atom : (m : Follows) (hold : Hold) (t : Token) (fs : List Frame) (rest : List Token) → t.kind ≡ OpenParen → takes hold t ≡ true → m.run (t ∷ rest) (await fs (atoms hold)) ≡ m.run rest (want (fixed (in_group hold t) ∷ fs))
+open_atom m hold t fs rest k g = m.goes t rest (await fs (atoms hold)) (want (fixed (in_group hold t) ∷ fs)) (ap (λ x. atoms_step hold x t fs) k ∙ if_some (takes hold t) (want (fixed (in_group hold t) ∷ fs)) g)
 
 pub minus_of : (k : Kind) → is_minus k ≡ true → k ≡ Minus
 minus_of Minus h = refl

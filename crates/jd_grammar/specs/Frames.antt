@@ -1,11 +1,13 @@
 -- What has been begun while an expression is read: the frames that are open, the innermost first, and what was read last.
-use Rattle.std.specs.Prelude.{ℕ, ◌+◌, Bool, true, false, List, [], ◌∷◌}
+use Rattle.std.specs.Prelude.{ℕ, ◌+◌, Bool, true, false, Option, List, [], ◌∷◌}
 use Rattle.jd_grammar.specs.declared.token.Token.{Token}
-use Rattle.jd_grammar.specs.Grammar.{Channel, Syntax, leaf, sign, ending, bracket, Head, unary, Bracket, called, Items, Maybe, Generators, asks, is_negation, item_level}
+use Rattle.jd_grammar.specs.Grammar.{Channel, Syntax, leaf, sign, ending, bracket, Head, unary, Bracket, called, Cells, Items, Maybe, Generators, asks, is_negation, item_level}
 
 -- what wants an atom
 pub data Hold : Type 0 where
   spawning : (t : Token) → Hold
+  -- a bracket that can only be a matrix: its first atom, the others, and a `;` that wants one
+  rows : (opens : Token) (first : Syntax) (cells : Cells) (pending : Option Token) → Hold
 
 -- a construct whose end is a token of its own, without the operand that is read now
 pub data Fixed : Type 0 where

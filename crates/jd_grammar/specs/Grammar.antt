@@ -1,115 +1,12 @@
--- Expressions as plain trees that keep every token, the tokens that a tree is written with, and which trees
--- the grammar has.
+-- Which expressions the grammar has.
 use Rattle.std.specs.Prelude.{ℕ, ◌≡◌, ◌≤◌, ◌+◌, Bool, true, false, ◌&&◌, not, IsTrue, List, [], ◌∷◌, ◌++◌, if◌then◌else◌}
 use Rattle.jd_grammar.specs.declared.token.Token.{Token}
 use Rattle.jd_grammar.specs.declared.token.Word.TheVariants as word
 use Rattle.jd_grammar.specs.declared.token.Kind.{Kind}
 use Rattle.jd_grammar.specs.declared.token.Kind.TheVariants.{Name, Question, Colon, Comma, Semicolon, Arrow, Assign, For, In, OpenParen, CloseParen, OpenBracket, CloseBracket, OpenBrace, CloseBrace}
 use Rattle.jd_grammar.specs.Kinds.{is_leaf, is_number, is_name, is_least, is_unary, is_minus, is_argument, is_spawn, strength, left, stands, is_named, is_word, is_element_type}
-
--- `RemoteChannel(() -> Channel{`: the tokens before the type of a channel's elements
-pub record Channel : Type 0 where
-  pub callee : Token
-  pub opens : Token
-  pub none_opens : Token
-  pub none_closes : Token
-  pub arrow : Token
-  pub word : Token
-  pub brace : Token
-
-mutual
-  pub data Syntax : Type 0 where
-    -- a number, a text, a name, `true`, `false` or `nothing`
-    leaf : (t : Token) → Syntax
-    -- an operator as an argument
-    sign : (t : Token) → Syntax
-    -- what ends with an operand: its beginning, and the operand
-    ending : (h : Head) (e : Syntax) → Syntax
-    -- what stands in parentheses or brackets
-    bracket : (b : Bracket) (opens : Token) (most : Items) (last : Maybe) (closes : Token) → Syntax
-    comprehension : (opens : Token) (e : Syntax) (gens : Generators) (closes : Token) → Syntax
-    -- `RemoteChannel(() -> Channel{type}(size), place)`
-    remote : (c : Channel) (type shut opens : Token) (size : Syntax) (closes comma : Token) (place : Syntax) (last : Token) → Syntax
-
-  -- the beginning of what ends with an operand
-  pub data Head : Type 0 where
-    unary : (t : Token) → Head
-    binary : (l : Syntax) (t : Token) → Head
-    -- `c ? x :`
-    choice : (c : Syntax) (question : Token) (x : Syntax) (colon : Token) → Head
-    -- a name or names in parentheses, and `->`
-    lambda : (names : Syntax) (t : Token) → Head
-    -- `@spawnat` or `@fetchfrom`, and an atom
-    spawn : (t : Token) (a : Syntax) → Head
-    -- the name of a keyword argument, and `=`
-    keyword : (n t : Token) → Head
-
-  -- what parentheses or brackets stand behind
-  pub data Bracket : Type 0 where
-    -- nothing: an expression in parentheses, or a tuple
-    grouped : Bracket
-    -- a function
-    called : (f : Syntax) → Bracket
-    -- nothing: a list
-    itemed : Bracket
-    -- what is indexed
-    indexed : (f : Syntax) → Bracket
-
-  -- expressions, each with the separator behind it
-  pub data Items : Type 0 where
-    none : Items
-    more : (e : Syntax) (t : Token) (rest : Items) → Items
-
-  -- an expression that may be left out
-  pub data Maybe : Type 0 where
-    nothing : Maybe
-    just : (e : Syntax) → Maybe
-
-  -- `for name in e`, and behind it `, name in e`
-  pub data Generators : Type 0 where
-    no_more : Generators
-    generator : (t n i : Token) (e : Syntax) (rest : Generators) → Generators
-
--- ---- the tokens of a tree, in front of those of the rest
-
-abbrev pub put_channel : Channel → List Token → List Token
-put_channel c rest = c.callee ∷ c.opens ∷ c.none_opens ∷ c.none_closes ∷ c.arrow ∷ c.word ∷ c.brace ∷ rest
-
-abbrev mutual
-  pub put : Syntax → List Token → List Token
-  put (leaf t) rest = t ∷ rest
-  put (sign t) rest = t ∷ rest
-  put (ending h e) rest = put_head h (put e rest)
-  put (bracket b o most last c) rest = put_bracket b (o ∷ put_items most (put_maybe last (c ∷ rest)))
-  put (comprehension o e gens c) rest = o ∷ put e (put_generators gens (c ∷ rest))
-  put (remote c type shut o size closes comma place last) rest =
-      put_channel c (type ∷ shut ∷ o ∷ put size (closes ∷ comma ∷ put place (last ∷ rest)))
-
-  pub put_head : Head → List Token → List Token
-  put_head (unary t) rest = t ∷ rest
-  put_head (binary l t) rest = put l (t ∷ rest)
-  put_head (choice c q x t) rest = put c (q ∷ put x (t ∷ rest))
-  put_head (lambda ns t) rest = put ns (t ∷ rest)
-  put_head (spawn t a) rest = t ∷ put a rest
-  put_head (keyword n t) rest = n ∷ t ∷ rest
-
-  pub put_bracket : Bracket → List Token → List Token
-  put_bracket grouped rest = rest
-  put_bracket (called f) rest = put f rest
-  put_bracket itemed rest = rest
-  put_bracket (indexed f) rest = put f rest
-
-  pub put_items : Items → List Token → List Token
-  put_items none rest = rest
-  put_items (more e t es) rest = put e (t ∷ put_items es rest)
-
-  pub put_maybe : Maybe → List Token → List Token
-  put_maybe nothing rest = rest
-  put_maybe (just e) rest = put e rest
-
-  pub put_generators : Generators → List Token → List Token
-  put_generators no_more rest = rest
-  put_generators (generator t n i e gens) rest = t ∷ n ∷ i ∷ put e (put_generators gens rest)
+pub use Rattle.jd_grammar.specs.Trees.{Channel, Syntax, leaf, sign, ending, bracket, matrix, comprehension, remote, Head, unary, binary, choice, lambda, spawn, keyword, Bracket, grouped, called, itemed, indexed, Cells, no_cells, cell, row, Items, none, more, Maybe, nothing, just, Generators, no_more, generator, put_channel, put, put_head, put_bracket, put_cells, put_items, put_maybe, put_generators}
+pub use Rattle.jd_grammar.specs.Rows.{is_tight, is_atom, is_spaced, is_row, are_many, is_full}
 
 -- ---- names in parentheses
 
@@ -119,6 +16,7 @@ name_of (leaf t) = t.kind
 name_of (sign t) = Comma
 name_of (ending h e) = Comma
 name_of (bracket b o es last c) = Comma
+name_of (matrix o a cells c) = Comma
 name_of (comprehension o e gens c) = Comma
 name_of (remote c type shut o size closes comma place last) = Comma
 
@@ -180,8 +78,9 @@ is_separator b Comma = true
 is_separator (called f) Semicolon = true
 is_separator _ _ = false
 
--- which places may be left out: `()`, `f()` and `[]`, and `(e,)`
+-- Which places may be left out: `()`, `f()` and `[]`, and `(e,)`. A list of one element isn't what is a matrix of one row.
 abbrev pub is_shape : Bracket → Items → Maybe → Bool
+is_shape itemed none (just e) = not (is_row e)
 is_shape b most (just e) = true
 is_shape grouped none nothing = true
 is_shape grouped (more e t none) nothing = true
@@ -197,16 +96,6 @@ touches _ u = true
 abbrev pub last_touches : Maybe → Token → Bool
 last_touches nothing u = true
 last_touches (just e) u = touches e u
-
--- a number with or without a `-` directly before it, a name, or one expression in parentheses
-abbrev pub is_tight : Token → Bool
-is_tight t = if t.spaced then false else (if is_number t.kind then true else is_least t.kind t.spaced)
-
-abbrev pub is_atom : Syntax → Bool
-is_atom (leaf t) = if is_number t.kind then true else is_name t.kind
-is_atom (ending (unary t) (leaf n)) = is_minus t.kind && is_tight n
-is_atom (bracket grouped o none (just e) c) = true
-is_atom _ = false
 
 -- ---- the grammar's trees
 
@@ -248,6 +137,8 @@ abbrev mutual
   IsAt ranges negated n (bracket b o most last c) =
       IsBracket ranges negated b × (o.kind ≡ opens b) × AreItems b most × IsAtMaybe (item_level b) last × (c.kind ≡ closes b)
       × IsTrue (is_shape b most last) × IsTrue (last_touches last c)
+  IsAt ranges negated n (matrix o a cells c) =
+      (o.kind ≡ OpenBracket) × IsAt true false 9 a × IsTrue (is_atom a) × AreCells cells × IsTrue (are_many cells) × IsTrue (is_full cells) × (c.kind ≡ CloseBracket)
   IsAt ranges negated n (comprehension o e gens c) =
       (o.kind ≡ OpenBracket) × IsAt true false 1 e × AreGenerators For gens × (1 ≤ count gens) × (count gens ≤ 3) × (c.kind ≡ CloseBracket)
   IsAt ranges negated n (remote c type shut o size closes comma place last) =
@@ -267,6 +158,11 @@ abbrev mutual
   IsBracket ranges negated (called f) = IsAt ranges negated 10 f
   IsBracket ranges negated itemed = Unit {0}
   IsBracket ranges negated (indexed f) = IsAt ranges negated 10 f
+
+  pub AreCells : Cells → Type 0
+  AreCells no_cells = Unit {0}
+  AreCells (cell a cells) = IsAt true false 9 a × IsTrue (is_atom a) × IsTrue (is_spaced a) × AreCells cells
+  AreCells (row t a cells) = (t.kind ≡ Semicolon) × IsAt true false 9 a × IsTrue (is_atom a) × AreCells cells
 
   pub AreItems : Bracket → Items → Type 0
   AreItems b none = Unit {0}

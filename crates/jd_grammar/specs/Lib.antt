@@ -1,9 +1,11 @@
 pub mod Kinds
+pub mod Trees
+pub mod Rows
 pub mod Grammar
 pub mod Depth
 pub mod Frames
 pub mod Machine
-pub mod Needs
+pub mod Shortest
 pub mod Script
 pub mod Reader
 pub mod ScriptDepth

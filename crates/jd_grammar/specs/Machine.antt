@@ -4,9 +4,10 @@ use Rattle.jd_grammar.specs.declared.token.Token.{Token}
 use Rattle.jd_grammar.specs.declared.token.Word.TheVariants as word
 use Rattle.jd_grammar.specs.declared.token.Kind.{Kind}
 use Rattle.jd_grammar.specs.declared.token.Kind.TheVariants.{Number, Wide, Text, Name, True, False, Nothing, In, For, SpawnAt, FetchFrom, Plus, Minus, Star, And, Or, Xor, Not, Complement, Question, Colon, Comma, Arrow, Assign, OpenParen, CloseParen, OpenBracket, CloseBracket, OpenBrace, CloseBrace, Semicolon}
-use Rattle.jd_grammar.specs.Kinds.{is_leaf, is_name, is_least, is_argument, strength, left, stands, is_word, is_element_type, is_number}
-use Rattle.jd_grammar.specs.Grammar.{Channel, Syntax, leaf, sign, ending, bracket, comprehension, remote, Head, unary, binary, choice, lambda, spawn, keyword, Bracket, grouped, called, itemed, indexed, Items, none, more, Maybe, nothing, just, Generators, no_more, generator, name_of, is_name_leaf, are_parameters, is_separator, is_shape, touches, is_tight, count, level}
-use Rattle.jd_grammar.specs.Frames.{Hold, spawning, Fixed, in_bracket, in_middle, in_group, in_generator, in_size, in_place, Frame, open_end, fixed, Words, operator, atoms, minus, generator_name, generator_in, element_type, type_end, size_begin, place_begin, Now, wanted, got, pending, State, want, have, await, demand, ranges, negated}
+use Rattle.jd_grammar.specs.Kinds.{is_leaf, is_name, is_least, is_minus, is_argument, strength, left, stands, is_word, is_element_type, is_number}
+use Rattle.jd_grammar.specs.Grammar.{Channel, Syntax, leaf, sign, ending, bracket, matrix, comprehension, remote, Head, unary, binary, choice, lambda, spawn, keyword, Bracket, grouped, called, itemed, indexed, Items, none, more, Maybe, nothing, just, Generators, no_more, generator, name_of, is_name_leaf, are_parameters, is_separator, is_shape, touches, is_tight, count, level}
+use Rattle.jd_grammar.specs.Rows.{is_chain, is_full, first_of, cells_of, with_cell, are_begun, may_go_on}
+use Rattle.jd_grammar.specs.Frames.{Hold, spawning, rows, Fixed, in_bracket, in_middle, in_group, in_generator, in_size, in_place, Frame, open_end, fixed, Words, operator, atoms, minus, generator_name, generator_in, element_type, type_end, size_begin, place_begin, Now, wanted, got, pending, State, want, have, await, demand, ranges, negated}
 
 -- Ends what binds at least as tightly as a token of this strength; 0 ends all but what a token of its own ends.
 abbrev pub close : ℕ → List Frame → Syntax → List Frame × Syntax
@@ -31,8 +32,25 @@ is_closer _ _ = false
 abbrev pub item_step : Bracket → Token → Items → Token → List Frame → Syntax → Option State
 item_step b o es t fs e = if is_separator b t.kind && touches e t then Some (want (fixed (in_bracket b o (with_item es e t)) ∷ fs)) else None
 
+-- what is no list is a matrix of one row
+abbrev pub row_end : Token → Token → List Frame → Syntax → Option State
+row_end o t fs e = if is_full (cells_of e) then Some (have fs (matrix o (first_of e) (cells_of e) t)) else None
+
 abbrev pub close_step : Bracket → Token → Items → Token → List Frame → Syntax → Option State
-close_step b o es t fs e = if is_closer b t.kind && touches e t then Some (have fs (bracket b o es (just e) t)) else None
+close_step b o es t fs e =
+    if is_closer b t.kind && touches e t then (if is_shape b es (just e) then Some (have fs (bracket b o es (just e) t)) else row_end o t fs e) else None
+
+-- a second atom behind a first element: the bracket is a matrix
+abbrev pub second_step : Bracket → Token → Items → Token → List Frame → Syntax → Option State
+second_step itemed o none t fs e =
+    if (t.spaced && is_chain e) && are_begun (with_cell (cells_of e) None (leaf t))
+    then Some (await fs (atoms (rows o (first_of e) (with_cell (cells_of e) None (leaf t)) None))) else None
+second_step _ o es t fs e = None
+
+-- `;` behind an item: it separates arguments, or ends a matrix's first row
+abbrev pub semicolon_step : Bracket → Token → Items → Token → List Frame → Syntax → Option State
+semicolon_step itemed o none t fs e = if is_chain e && may_go_on (cells_of e) then Some (await fs (atoms (rows o (first_of e) (cells_of e) (Some t)))) else None
+semicolon_step b o es t fs e = item_step b o es t fs e
 
 -- `for` behind a list's first element
 abbrev pub for_step : Bracket → Token → Items → Token → List Frame → Syntax → Option State
@@ -41,7 +59,9 @@ for_step _ o es t fs e = None
 
 abbrev pub bracket_step : Bracket → Token → Items → Kind → Token → List Frame → Syntax → Option State
 bracket_step b o es Comma t fs e = item_step b o es t fs e
-bracket_step b o es Semicolon t fs e = item_step b o es t fs e
+bracket_step b o es Semicolon t fs e = semicolon_step b o es t fs e
+bracket_step b o es (Number n) t fs e = second_step b o es t fs e
+bracket_step b o es (Name n) t fs e = second_step b o es t fs e
 bracket_step b o es CloseParen t fs e = close_step b o es t fs e
 bracket_step b o es CloseBracket t fs e = close_step b o es t fs e
 bracket_step b o es For t fs e = for_step b o es t fs e
@@ -60,6 +80,16 @@ middle_step c q _ t fs e = None
 -- behind an atom
 abbrev pub filled : Hold → Syntax → List Frame → State
 filled (spawning s) a fs = want (open_end (spawn s a) ∷ fs)
+filled (rows o x cells q) a fs = await fs (atoms (rows o x (with_cell cells q a) None))
+
+-- whether an atom may begin there: in a row it stands behind a blank
+abbrev pub takes_atom : Token → Option Token → Bool
+takes_atom t None = t.spaced
+takes_atom t (Some q) = true
+
+abbrev pub takes : Hold → Token → Bool
+takes (spawning s) t = true
+takes (rows o x cells q) t = takes_atom t q && are_begun (with_cell cells q (leaf t))
 
 abbrev pub group_step : Hold → Token → Kind → Token → List Frame → Syntax → Option State
 group_step hold p CloseParen t fs e = Some (filled hold (bracket grouped p none (just e) t) fs)
@@ -71,6 +101,19 @@ atom_step hold (Name n) t fs = Some (filled hold (leaf t) fs)
 atom_step hold Minus t fs = Some (await fs (minus hold t))
 atom_step hold OpenParen t fs = Some (want (fixed (in_group hold t) ∷ fs))
 atom_step hold _ t fs = None
+
+abbrev pub next_row : Hold → Token → List Frame → Option State
+next_row (rows o x cells None) t fs = if may_go_on cells then Some (await fs (atoms (rows o x cells (Some t)))) else None
+next_row hold t fs = None
+
+abbrev pub rows_end : Hold → Token → List Frame → Option State
+rows_end (rows o x cells None) t fs = if is_full cells then Some (have fs (matrix o x cells t)) else None
+rows_end hold t fs = None
+
+abbrev pub atoms_step : Hold → Kind → Token → List Frame → Option State
+atoms_step hold Semicolon t fs = next_row hold t fs
+atoms_step hold CloseBracket t fs = rows_end hold t fs
+atoms_step hold k t fs = if takes hold t then atom_step hold k t fs else None
 
 abbrev pub minus_step : Hold → Token → Token → List Frame → Option State
 minus_step hold m t fs = if is_tight t then Some (filled hold (ending (unary m) (leaf t)) fs) else None
@@ -123,7 +166,11 @@ operator_step t fs = None
 abbrev pub spawn_step : Token → List Frame → Option State
 spawn_step t fs = if nat_le (demand fs) 1 then Some (await fs (atoms (spawning t))) else None
 
+-- 2^63 behind a `-`: behind a difference in a first element it can only be an atom
 abbrev pub wide_step : Token → List Frame → Option State
+wide_step t (open_end (binary l m) ∷ (fixed (in_bracket itemed o none) ∷ fs)) =
+    if ((is_minus m.kind && m.spaced) && (is_least t.kind t.spaced && is_chain l)) && are_begun (with_cell (cells_of l) None (ending (unary m) (leaf t)))
+    then Some (await fs (atoms (rows o (first_of l) (with_cell (cells_of l) None (ending (unary m) (leaf t))) None))) else None
 wide_step t fs = if negated fs && is_least t.kind t.spaced then Some (have fs (leaf t)) else None
 
 -- what no operand begins with
@@ -209,7 +256,7 @@ have_step k t fs e =
 abbrev pub words_step : Words → Token → List Frame → Option State
 words_step (operator s) t (fixed (in_bracket (called f) o es) ∷ fs) = bracket_step (called f) o es t.kind t fs (sign s)
 words_step (operator s) t fs = None
-words_step (atoms hold) t fs = atom_step hold t.kind t fs
+words_step (atoms hold) t fs = atoms_step hold t.kind t fs
 words_step (minus hold m) t fs = minus_step hold m t fs
 words_step (generator_name o x gens f) t fs = generator_name_step o x gens f t fs
 words_step (generator_in o x gens f n) t fs = generator_in_step o x gens f n t.kind t fs
