@@ -1,7 +1,7 @@
 -- What a step reads is there: behind it an expression has begun.
-use Rattle.std.proofs.Common.{ℕ, ◌≡◌, ◌≤◌, ◌<◌, ◌+◌, Bool, true, false, List, [], ◌∷◌, Option, Some, None, refl, sym, ap, subst, ◌∙◌, arith}
+use Rattle.std.proofs.Common.{ℕ, ◌≡◌, ◌≤◌, ◌+◌, false, List, [], ◌∷◌, Some, None, refl, ap, arith}
 use Rattle.jd_grammar.specs.declared.token.Token.{Token}
-use Rattle.jd_grammar.specs.Grammar.{Channel, Syntax, leaf, sign, ending, bracket, matrix, comprehension, remote, Head, unary, binary, choice, lambda, spawn, keyword, Bracket, grouped, called, itemed, indexed, Cells, no_cells, cell, row, Items, none, more, Maybe, nothing, just, Generators, no_more, generator, put_channel, put, put_head, put_bracket, put_cells, put_items, put_maybe, put_generators}
+use Rattle.jd_grammar.specs.Grammar.{Syntax, leaf, sign, ending, bracket, matrix, comprehension, remote, Head, unary, binary, choice, lambda, spawn, keyword, Bracket, grouped, called, itemed, indexed, Cells, no_cells, cell, row, Items, none, more, Maybe, nothing, just, Generators, no_more, generator, put, put_head, put_bracket, put_cells, put_items, put_maybe, put_generators}
 use Rattle.jd_grammar.specs.Frames.{Hold, spawning, rows, Fixed, in_bracket, in_middle, in_group, in_generator, in_size, in_place, Frame, open_end, fixed, Words, operator, atoms, minus, generator_name, generator_in, element_type, type_end, size_begin, place_begin, Now, wanted, got, pending, State}
 use Rattle.jd_grammar.specs.ScriptDepth.{is_fresh}
 use Rattle.jd_grammar.proofs.Invariant.{put_hold, put_fixed, put_frame, put_frames, put_words, put_now, put_state, IsStep}

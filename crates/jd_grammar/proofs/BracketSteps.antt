@@ -1,14 +1,14 @@
 -- What stands in parentheses or brackets: each step keeps the tokens and the order of a state.
-use Rattle.std.proofs.Common.{ℕ, ◌≡◌, ◌≤◌, ◌+◌, Bool, true, false, ◌&&◌, not, IsTrue, List, [], ◌∷◌, Option, Some, None, if◌then◌else◌, refl, sym, ap, subst, ◌∙◌, arith}
+use Rattle.std.proofs.Common.{◌≡◌, Bool, true, false, ◌&&◌, not, IsTrue, List, ◌∷◌, Option, Some, None, if◌then◌else◌, refl, sym, ap, ◌∙◌, arith}
 use Rattle.jd_grammar.specs.declared.token.Token.{Token}
 use Rattle.jd_grammar.specs.declared.token.Kind.{Kind}
-use Rattle.jd_grammar.specs.declared.token.Kind.TheVariants.{Number, Name, Comma, Semicolon, For, OpenParen, CloseParen, OpenBracket, CloseBracket}
+use Rattle.jd_grammar.specs.declared.token.Kind.TheVariants.{Number, Name, Comma, Semicolon, For, CloseParen, OpenBracket, CloseBracket}
 use Rattle.jd_grammar.specs.Kinds.{is_leaf, is_least, is_number, is_name, is_argument}
-use Rattle.jd_grammar.specs.Grammar.{Syntax, leaf, sign, bracket, matrix, unary, Bracket, grouped, called, itemed, indexed, Items, none, more, Maybe, nothing, just, no_more, put, put_items, closes, opens, item_level, is_separator, is_shape, touches, is_atom, is_spaced, is_row, is_full, IsAt, IsBracket, AreItems}
+use Rattle.jd_grammar.specs.Grammar.{Syntax, leaf, sign, bracket, matrix, unary, Bracket, grouped, called, itemed, indexed, Items, none, more, nothing, just, put, put_items, closes, item_level, is_separator, is_shape, touches, is_atom, is_spaced, is_row, is_full, IsAt, AreItems}
 use Rattle.jd_grammar.specs.Rows.{is_chain, first_of, cells_of, with_cell, first_width, are_begun, may_go_on}
-use Rattle.jd_grammar.specs.Frames.{rows, Fixed, in_bracket, Frame, open_end, fixed, Words, operator, atoms, generator_name, State, want, have, await, demand, ranges, negated}
+use Rattle.jd_grammar.specs.Frames.{rows, Fixed, in_bracket, Frame, open_end, fixed, atoms, State, want, have, await}
 use Rattle.jd_grammar.specs.Machine.{with_item, is_closer, item_step, row_end, close_step, second_step, semicolon_step, for_step, bracket_step, empty_step, want_end, operator_step}
-use Rattle.jd_grammar.proofs.Invariant.{put_fixed, put_frames, put_state, IsHold, IsFixed, AreFrames, IsState, IsStep, MayStep, may_if, both}
+use Rattle.jd_grammar.proofs.Invariant.{put_fixed, put_frames, put_state, IsHold, IsFixed, AreFrames, IsState, MayStep, may_if, both}
 use Rattle.jd_grammar.proofs.RowFacts.{even_cell, go_begun, single_cells, single_even, many_with_cell}
 use Rattle.jd_grammar.proofs.RowSplit.{put_with_cell, are_with_cell, IsSplit, split, row_chain}
 

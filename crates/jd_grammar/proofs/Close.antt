@@ -1,14 +1,14 @@
 -- Ending what binds tightly enough keeps the tokens and the order of a state.
-use Rattle.std.proofs.Common.{ℕ, ◌≡◌, ◌≤◌, ◌<◌, ◌+◌, Bool, true, false, IsTrue, List, [], ◌∷◌, nat_le, if◌then◌else◌, refl, sym, ap, subst, ◌∙◌, arith}
+use Rattle.std.proofs.Common.{ℕ, ◌≡◌, ◌≤◌, ◌<◌, Bool, true, false, IsTrue, List, [], ◌∷◌, nat_le, if◌then◌else◌, refl, arith}
 use Rattle.std.proofs.lemmas.Bool.Decides.{nat_tests}
 use Rattle.jd_grammar.specs.declared.token.Token.{Token}
 use Rattle.jd_grammar.specs.declared.token.Kind.{Kind}
-use Rattle.jd_grammar.specs.declared.token.Kind.TheVariants.{OrElse, AndAlso, Equal, Unequal, Less, LessEqual, Greater, GreaterEqual, Colon, Plus, Minus, Or, Xor, Star, Divide, Percent, And}
-use Rattle.jd_grammar.specs.Kinds.{strength, left}
+use Rattle.jd_grammar.specs.declared.token.Kind.TheVariants.{OrElse, AndAlso, Colon, Plus, Star}
+use Rattle.jd_grammar.specs.Kinds.{strength}
 use Rattle.jd_grammar.specs.Grammar.{Syntax, leaf, sign, ending, bracket, matrix, comprehension, remote, Head, unary, binary, choice, lambda, spawn, keyword, grouped, called, itemed, indexed, put, asks, level, is_negation, touches, IsAt}
-use Rattle.jd_grammar.specs.Frames.{Fixed, in_bracket, Frame, open_end, fixed, State, have, demand, demand_of, ranges, negated}
+use Rattle.jd_grammar.specs.Frames.{Fixed, in_bracket, Frame, open_end, fixed, have, demand, demand_of, ranges, negated}
 use Rattle.jd_grammar.specs.Machine.{close}
-use Rattle.jd_grammar.proofs.Invariant.{put_frames, put_state, AreFrames, IsState}
+use Rattle.jd_grammar.proofs.Invariant.{put_frames, AreFrames, IsState}
 
 pub le_of : (p s : ℕ) → nat_le p s ≡ true → p ≤ s
 le_of p s h = grind (arith, nat_tests)

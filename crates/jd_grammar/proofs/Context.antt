@@ -1,12 +1,10 @@
 -- What an unfinished script is written with, and what holds of it between two tokens.
-use Rattle.std.proofs.Common.{ℕ, ◌≡◌, ◌≤◌, ◌+◌, Bool, true, false, ◌&&◌, IsTrue, List, [], ◌∷◌, ◌++◌, Option, Some, None, if◌then◌else◌, refl, sym, ap, subst, ◌∙◌, arith}
+use Rattle.std.proofs.Common.{◌≡◌, Bool, true, false, IsTrue, List, [], ◌∷◌, Option, Some, None, if◌then◌else◌, refl}
 use Rattle.jd_grammar.specs.declared.token.Token.{Token}
-use Rattle.jd_grammar.specs.declared.token.Kind.{Kind}
-use Rattle.jd_grammar.specs.declared.token.Kind.TheVariants.{Function, For, Catch, Using, DistributedFor, Everywhere, Comma, Assign, OpenParen, CloseParen}
+use Rattle.jd_grammar.specs.declared.token.Kind.TheVariants.{Function, For, Catch, Using, DistributedFor, Everywhere, Comma, OpenParen, CloseParen}
 use Rattle.jd_grammar.specs.Kinds.{is_name}
-use Rattle.jd_grammar.specs.Grammar.{Syntax, put, IsAt}
-use Rattle.jd_grammar.specs.Frames.{State}
-use Rattle.jd_grammar.specs.Script.{Parameters, no_parameters, first, next, Signature, Packages, Lead, Target, Header, Opening, Stmt, Before, Lines, Place, Scope, put_parameters, put_signature, put_packages, put_lead, put_target, put_header, put_every, put_opening, put_stmt, put_before, put_lines, put_place, Role, role_before, header_follows, follows, is_reducer, AreParameters, IsSignature, ArePackages, IsLead, IsTarget, IsHeader, IsEvery, IsOpening, IsStmt, IsBefore, AreLines, IsPlace}
+use Rattle.jd_grammar.specs.Grammar.{put, IsAt}
+use Rattle.jd_grammar.specs.Script.{Parameters, no_parameters, first, next, Target, Scope, put_parameters, put_signature, put_packages, put_lead, put_target, put_header, put_every, put_opening, put_stmt, put_before, put_lines, put_place, role_before, header_follows, follows, is_reducer, AreParameters, IsSignature, ArePackages, IsLead, IsTarget, IsHeader, IsEvery, IsOpening, IsStmt, IsBefore, AreLines, IsPlace}
 use Rattle.jd_grammar.specs.Reader.{Outer, Context, Bottom, in_lead, in_header, Owner, of_function, of_everywhere, Awaited, for_name, for_in, distributed_open, distributed_reducer, distributed_close, distributed_for, distributed_name, distributed_in, function_name, signature_open, signature_first, signature_next, signature_name, signature_end, everywhere, everywhere_package, package_first, package_next, catch_words, catch_named, Mode, at_expression, at_words, complete, Config, scope, Whole, nothing_whole, a_place, a_header, is_trying}
 use Rattle.jd_grammar.proofs.Invariant.{put_state, IsState}
 

@@ -1,17 +1,15 @@
 -- Some end makes an expression of what was read.
-use Rattle.std.proofs.Common.{ℕ, zero, suc, ◌≡◌, ◌≤◌, ◌+◌, max, Bool, true, false, ◌&&◌, not, IsTrue, List, [], ◌∷◌, Option, Some, None, nat_le, if◌then◌else◌, refl, sym, ap, subst, ◌∙◌, arith}
+use Rattle.std.proofs.Common.{ℕ, zero, suc, ◌≡◌, ◌≤◌, true, false, ◌&&◌, not, IsTrue, List, [], ◌∷◌, Some, None, nat_le, if◌then◌else◌, refl, sym, ap, ◌∙◌, arith}
 use Rattle.jd_grammar.specs.declared.token.Token.{Token}
-use Rattle.jd_grammar.specs.declared.token.Word.TheVariants as word
-use Rattle.jd_grammar.specs.declared.token.Name.TheVariants as name
 use Rattle.jd_grammar.specs.declared.token.Kind.{Kind}
-use Rattle.jd_grammar.specs.declared.token.Kind.TheVariants.{Number, Name, Minus, Colon, Comma, For, In, OpenParen, CloseParen, OpenBracket, CloseBracket, CloseBrace}
-use Rattle.jd_grammar.specs.Kinds.{is_leaf, is_least, is_minus, is_unary, is_argument}
-use Rattle.jd_grammar.specs.Grammar.{Channel, Syntax, leaf, sign, ending, bracket, matrix, comprehension, remote, Head, unary, binary, choice, lambda, spawn, keyword, Bracket, grouped, called, itemed, indexed, Cells, Items, none, more, Maybe, nothing, just, Generators, no_more, generator, put, put_bracket, put_cells, put_items, closes, item_level, touches, is_tight, is_atom, is_spaced, is_row, are_many, is_full, AreCells, count, level, is_negation, IsAt}
-use Rattle.jd_grammar.specs.Frames.{Hold, spawning, rows, Fixed, in_bracket, in_middle, in_group, in_generator, in_size, in_place, Frame, open_end, fixed, Words, operator, atoms, minus, generator_name, generator_in, element_type, type_end, size_begin, place_begin, Now, wanted, got, pending, State, want, have, await, demand, demand_of, ranges, ranges_in, negated}
+use Rattle.jd_grammar.specs.declared.token.Kind.TheVariants.{Number, Comma, For, In, CloseParen, OpenBracket, CloseBracket}
+use Rattle.jd_grammar.specs.Kinds.{is_minus, is_unary, is_argument}
+use Rattle.jd_grammar.specs.Grammar.{Syntax, leaf, sign, ending, bracket, matrix, comprehension, unary, Bracket, grouped, called, itemed, indexed, Cells, Items, none, more, just, Generators, put, put_bracket, put_cells, put_items, item_level, touches, is_atom, is_spaced, is_row, are_many, is_full, AreCells, level, is_negation, IsAt}
+use Rattle.jd_grammar.specs.Frames.{Hold, spawning, rows, Fixed, in_bracket, in_middle, in_group, in_generator, in_size, in_place, Frame, open_end, fixed, Words, operator, atoms, minus, generator_name, generator_in, element_type, type_end, size_begin, place_begin, Now, wanted, got, pending, State, want, await, demand, demand_of, ranges, ranges_in, negated}
 use Rattle.jd_grammar.specs.Rows.{is_chain, with_cell, first_of, cells_of}
 use Rattle.jd_grammar.specs.Machine.{takes, with_generator}
-use Rattle.jd_grammar.specs.Shortest.{token, zero_leaf, zero_token, fill, zeros, missing, filled_rows, rows_rest, held, held_end, shut_row, shut_bracket, row_rest, bracket_rest, shut, shut_end, wrap, closing, Ready, ready, zero_ready, sign_ready, depth_of, want_ready, a_name, an_int, channel_end, a_remote, atoms_ready, words_ready, now_ready, whole, to_end}
-use Rattle.jd_grammar.proofs.Invariant.{put_hold, put_fixed, put_frames, put_words, put_now, put_state, next_kind, IsHold, AreBegun, IsFixed, AreFrames, IsCall, IsWords, IsNow, IsState, both}
+use Rattle.jd_grammar.specs.Shortest.{token, zero_leaf, zero_token, fill, zeros, missing, filled_rows, rows_rest, held, held_end, shut_row, shut_bracket, row_rest, bracket_rest, shut, shut_end, wrap, closing, Ready, zero_ready, sign_ready, depth_of, want_ready, a_name, atoms_ready, words_ready, now_ready, whole, to_end}
+use Rattle.jd_grammar.proofs.Invariant.{put_hold, put_fixed, put_frames, put_state, IsHold, IsFixed, AreFrames, IsCall, IsWords, IsNow, IsState, both}
 use Rattle.jd_grammar.proofs.Close.{weaken, demand_le, touches_of}
 use Rattle.jd_grammar.proofs.RowFacts.{many_with_cell, fill_full, go_on_begun}
 use Rattle.jd_grammar.proofs.RowSplit.{put_with_cell, are_with_cell, split, row_chain}

@@ -1,10 +1,10 @@
 -- What the frames that are open are written with, and what holds of them between two tokens.
-use Rattle.std.proofs.Common.{ℕ, ◌≡◌, ◌≤◌, ◌+◌, Bool, true, false, ◌&&◌, IsTrue, List, [], ◌∷◌, ◌++◌, Option, Some, None, if◌then◌else◌, refl, sym, ap, subst, ◌∙◌, arith}
+use Rattle.std.proofs.Common.{◌≡◌, ◌≤◌, Bool, true, false, ◌&&◌, IsTrue, List, [], ◌∷◌, Option, Some, None, if◌then◌else◌, refl}
 use Rattle.jd_grammar.specs.declared.token.Token.{Token}
 use Rattle.jd_grammar.specs.declared.token.Kind.{Kind}
 use Rattle.jd_grammar.specs.declared.token.Kind.TheVariants.{Minus, Question, Comma, Semicolon, For, In, OpenParen, CloseParen, OpenBracket, CloseBrace}
 use Rattle.jd_grammar.specs.Kinds.{is_name, is_argument, is_spawn, is_element_type}
-use Rattle.jd_grammar.specs.Grammar.{Channel, Syntax, Head, Bracket, called, Cells, Items, Generators, no_more, generator, put_channel, put, put_head, put_bracket, put_cells, put_items, put_generators, opens, count, level, IsChannel, IsAt, IsHead, IsBracket, AreCells, AreItems, AreGenerators}
+use Rattle.jd_grammar.specs.Grammar.{Channel, Syntax, called, Cells, Generators, no_more, generator, put_channel, put, put_head, put_bracket, put_cells, put_items, put_generators, opens, count, level, IsChannel, IsAt, IsHead, IsBracket, AreCells, AreItems, AreGenerators}
 use Rattle.jd_grammar.specs.Rows.{is_atom, are_many, are_even, first_width, are_begun, may_go_on}
 use Rattle.jd_grammar.specs.Machine.{takes}
 use Rattle.jd_grammar.specs.Frames.{Hold, spawning, rows, Fixed, in_bracket, in_middle, in_group, in_generator, in_size, in_place, Frame, open_end, fixed, Words, operator, atoms, minus, generator_name, generator_in, element_type, type_end, size_begin, place_begin, Now, wanted, got, pending, State, demand, ranges, negated}

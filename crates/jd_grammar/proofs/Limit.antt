@@ -1,20 +1,18 @@
 -- Which tokens may become a script within the limit.
-use Rattle.std.proofs.Common.{ℕ, ◌≡◌, ◌≤◌, ◌<◌, ◌+◌, max, Bool, true, false, List, [], ◌∷◌, ◌++◌, Option, Some, None, refl, sym, ap, subst, ◌∙◌, arith}
+use Rattle.std.proofs.Common.{ℕ, ◌≡◌, ◌≤◌, ◌<◌, max, Bool, false, List, [], ◌∷◌, ◌++◌, Some, refl, sym, ap, subst, ◌∙◌, arith}
 use Rattle.jd_grammar.specs.declared.token.Token.{Token}
 use Rattle.jd_grammar.specs.Grammar.{Syntax}
 use Rattle.jd_grammar.specs.Frames.{Frame, Now, wanted, got, pending, have}
 use Rattle.jd_grammar.specs.Machine.{close}
 use Rattle.jd_grammar.specs.Depth.{height}
 use Rattle.jd_grammar.specs.Shortest.{wrap}
-use Rattle.jd_grammar.specs.Script.{Lead, bare, returned, Block, block, Lines, Place, empty, stmt}
+use Rattle.jd_grammar.specs.Script.{bare, returned, Block, block, Lines}
 use Rattle.jd_grammar.specs.Reader.{Outer, Bottom, in_lead, in_header, Mode, at_expression, at_words, complete, Config, start, Whole, nothing_whole, a_place, a_header, with_expression, without_expression, whole_at, whole_of, and_then, run, finish_place, finish}
 use Rattle.jd_grammar.specs.ScriptDepth.{depth_place, depth_lines, depth, limit, is_fresh, mode_needs, has_begun, round_needs, needs}
-use Rattle.jd_grammar.specs.Promise.{Spells, SpellsWithin, IsPrefix, IsPrefixWithin}
+use Rattle.jd_grammar.specs.Promise.{SpellsWithin, IsPrefixWithin}
 use Rattle.jd_grammar.proofs.Under.{close_wrap}
-use Rattle.jd_grammar.proofs.ScriptSound.{IsRun}
 use Rattle.jd_grammar.proofs.ScriptFinish.{script, script_end}
 use Rattle.jd_grammar.proofs.ScriptNesting.{over, over_below, NoLess, run_needs, finish_depth, script_depth}
-use Rattle.jd_grammar.proofs.ScriptSound.{start_ok}
 use Rattle.jd_grammar.proofs.Theorems.{run_gives, sound, becomes, run_append, answered}
 
 -- ---- what is whole is no deeper than what was read

@@ -1,22 +1,22 @@
 -- The least depth of an expression that begins with what was read never falls.
-use Rattle.std.proofs.Common.{ℕ, ◌≡◌, ◌≤◌, ◌<◌, ◌+◌, max, Bool, true, false, ◌&&◌, not, IsTrue, List, [], ◌∷◌, Option, Some, None, nat_le, nat_eq, if◌then◌else◌, refl, sym, ap, subst, ◌∙◌, arith}
+use Rattle.std.proofs.Common.{ℕ, ◌≡◌, ◌≤◌, ◌+◌, max, Bool, true, false, ◌&&◌, not, List, [], ◌∷◌, Option, Some, None, nat_le, nat_eq, if◌then◌else◌, refl, sym, ap, subst, ◌∙◌, arith}
 use Rattle.jd_grammar.specs.declared.token.Token.{Token}
 use Rattle.jd_grammar.specs.declared.token.Word.TheVariants as word
 use Rattle.jd_grammar.specs.declared.token.Kind.{Kind}
 use Rattle.jd_grammar.specs.declared.token.Kind.TheVariants.{Number, Wide, Text, Name, True, False, Nothing, In, For, SpawnAt, FetchFrom, Plus, Minus, Star, And, Or, Xor, Not, Complement, Question, Colon, Comma, Arrow, Assign, OpenParen, CloseParen, OpenBracket, CloseBracket, OpenBrace, CloseBrace, Semicolon}
-use Rattle.jd_grammar.specs.Kinds.{is_leaf, is_least, is_name, is_minus, is_argument, is_word, is_element_type, strength, left, stands}
-use Rattle.jd_grammar.specs.Grammar.{Channel, Syntax, leaf, sign, ending, bracket, matrix, comprehension, remote, Head, unary, binary, choice, lambda, spawn, keyword, Bracket, grouped, called, itemed, indexed, Cells, Items, none, more, Maybe, nothing, just, Generators, no_more, generator, closes, is_separator, is_shape, touches, is_tight, is_row, is_full, count, are_parameters}
+use Rattle.jd_grammar.specs.Kinds.{is_least, is_name, is_minus, is_argument, is_word, is_element_type, strength, left, stands}
+use Rattle.jd_grammar.specs.Grammar.{Syntax, leaf, sign, ending, bracket, matrix, comprehension, remote, unary, binary, choice, lambda, spawn, keyword, Bracket, grouped, called, itemed, indexed, Cells, Items, none, more, nothing, just, no_more, is_separator, is_shape, touches, is_tight, is_row, is_full, count, are_parameters}
 use Rattle.jd_grammar.specs.Rows.{begins_tight, is_plain, is_chain, is_long, with_cell, first_of, cells_of, count_cells, first_width, last_width, most_atoms, are_begun, may_go_on}
 use Rattle.jd_grammar.specs.Frames.{Hold, spawning, rows, Fixed, in_bracket, in_middle, in_group, in_generator, in_size, in_place, Frame, open_end, fixed, Words, operator, atoms, minus, generator_name, generator_in, element_type, type_end, size_begin, place_begin, Now, wanted, got, pending, State, want, have, await, demand, ranges, negated}
-use Rattle.jd_grammar.specs.Machine.{close, with_item, is_closer, item_step, row_end, close_step, second_step, semicolon_step, for_step, bracket_step, empty_step, middle_step, filled, takes, group_step, atom_step, next_row, rows_end, atoms_step, minus_step, with_generator, generator_name_step, generator_in_step, generator_step, element_type_step, type_end_step, size_begin_step, size_step, place_begin_step, place_step, operator_step, spawn_step, wide_step, want_end, want_step, at_binary, at_question, at_arrow, at_keyword, at_brace, fixed_step, at_end, have_more, have_step, words_step, step_at, step}
-use Rattle.jd_grammar.specs.Depth.{height, height_bracket, height_cells, height_items, height_generators}
-use Rattle.jd_grammar.specs.Shortest.{token, zero_leaf, filled_rows, held, shut_bracket, shut_row, shut, wrap, ready, zero_ready, sign_ready, depth_of, want_ready, a_name, an_int, a_remote, atoms_ready, words_ready, now_ready, whole, needs}
-use Rattle.jd_grammar.proofs.Invariant.{IsNow, IsState, IsCall}
+use Rattle.jd_grammar.specs.Machine.{close, with_item, is_closer, item_step, row_end, close_step, second_step, semicolon_step, for_step, bracket_step, middle_step, filled, takes, group_step, atom_step, next_row, rows_end, atoms_step, with_generator, generator_in_step, generator_step, type_end_step, size_begin_step, size_step, place_begin_step, place_step, operator_step, spawn_step, wide_step, want_end, want_step, at_binary, at_question, at_arrow, at_keyword, at_brace, fixed_step, at_end, have_more, have_step, words_step, step_at, step}
+use Rattle.jd_grammar.specs.Depth.{height, height_bracket, height_items}
+use Rattle.jd_grammar.specs.Shortest.{token, zero_leaf, filled_rows, held, shut_bracket, shut, wrap, zero_ready, sign_ready, depth_of, a_name, an_int, a_remote, needs}
+use Rattle.jd_grammar.proofs.Invariant.{IsState}
 use Rattle.jd_grammar.proofs.Close.{IsClosed, closed}
-use Rattle.jd_grammar.proofs.RowFacts.{both, and_true, le_of, not_le, test_le, eq_of, count_with, single_cells, single_width}
+use Rattle.jd_grammar.proofs.RowFacts.{both, and_true, le_of, not_le, count_with}
 use Rattle.jd_grammar.proofs.RowSplit.{level_plain}
 use Rattle.jd_grammar.proofs.Steps.{left_ge, left_le}
-use Rattle.jd_grammar.proofs.Under.{called_row, height_with_cell, height_rows, height_with_generator, row_height, row_le, binary_row, binary_count, row_shut_row, single_full, full_few, Under, same_under, under_under, zero_under, flat_under, ending_under, called_under, row_shut_le, row_shut_flat, shut_under, held_under, grows, close_wrap}
+use Rattle.jd_grammar.proofs.Under.{called_row, height_with_cell, height_rows, height_with_generator, row_height, binary_row, binary_count, row_shut_row, single_full, Under, same_under, zero_under, flat_under, called_under, row_shut_le, row_shut_flat, held_under, grows, close_wrap}
 
 abbrev pub NoLess : ℕ → Option State → Type 0
 NoLess n None = Unit {0}

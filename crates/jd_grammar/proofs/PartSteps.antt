@@ -1,15 +1,15 @@
 -- Conditionals, atoms, comprehensions and channels: each step keeps the tokens and the order of a state.
-use Rattle.std.proofs.Common.{ℕ, ◌≡◌, ◌≤◌, ◌+◌, Bool, true, false, ◌&&◌, IsTrue, List, [], ◌∷◌, Option, Some, None, nat_le, nat_eq, if◌then◌else◌, refl, sym, ap, subst, ◌∙◌, arith}
+use Rattle.std.proofs.Common.{◌≡◌, ◌+◌, true, false, ◌&&◌, IsTrue, List, ◌∷◌, Option, Some, None, nat_le, nat_eq, if◌then◌else◌, refl, sym, ap, ◌∙◌, arith}
 use Rattle.jd_grammar.specs.declared.token.Token.{Token}
 use Rattle.jd_grammar.specs.declared.token.Kind.{Kind}
-use Rattle.jd_grammar.specs.declared.token.Kind.TheVariants.{Number, Wide, Name, Minus, Colon, Comma, Semicolon, For, In, OpenParen, CloseParen, CloseBracket, CloseBrace}
-use Rattle.jd_grammar.specs.Kinds.{is_leaf, is_least, is_unary, is_minus, is_name, is_number, is_element_type}
-use Rattle.jd_grammar.specs.Grammar.{Channel, Syntax, leaf, ending, bracket, matrix, comprehension, remote, Cells, unary, choice, grouped, none, just, Generators, no_more, generator, put, put_generators, count, is_tight, is_atom, is_spaced, is_full, put_channel, IsChannel, IsAt, AreGenerators}
+use Rattle.jd_grammar.specs.declared.token.Kind.TheVariants.{Number, Name, Minus, Colon, Comma, Semicolon, For, In, OpenParen, CloseParen, CloseBracket, CloseBrace}
+use Rattle.jd_grammar.specs.Kinds.{is_leaf, is_minus, is_name, is_number, is_element_type}
+use Rattle.jd_grammar.specs.Grammar.{Channel, Syntax, leaf, ending, bracket, matrix, comprehension, Cells, unary, grouped, none, just, Generators, no_more, generator, put, put_generators, count, is_tight, is_atom, is_spaced, is_full, IsChannel, IsAt, AreGenerators}
 use Rattle.jd_grammar.specs.Rows.{with_cell, count_cells, first_width, last_width, most_atoms, are_even, are_begun, may_go_on}
-use Rattle.jd_grammar.specs.Frames.{Hold, spawning, rows, Fixed, in_middle, in_group, in_generator, in_size, in_place, Frame, open_end, fixed, Words, atoms, minus, generator_name, generator_in, element_type, type_end, size_begin, place_begin, State, want, have, await, demand}
+use Rattle.jd_grammar.specs.Frames.{Hold, spawning, rows, in_middle, in_group, in_generator, in_size, in_place, Frame, atoms, minus, generator_name, generator_in, element_type, type_end, size_begin, place_begin, State, have, await}
 use Rattle.jd_grammar.specs.Machine.{filled, middle_step, takes, group_step, atom_step, next_row, rows_end, atoms_step, minus_step, with_generator, generator_name_step, generator_in_step, generator_step, element_type_step, type_end_step, size_begin_step, size_step, place_begin_step, place_step}
-use Rattle.jd_grammar.proofs.Invariant.{put_hold, put_fixed, put_frames, put_words, put_state, next_kind, IsHold, AreBegun, IsTyped, IsSized, IsFixed, AreFrames, IsWords, IsState, IsStep, MayStep, may_if}
-use Rattle.jd_grammar.proofs.Close.{weaken, le_of, touches_of}
+use Rattle.jd_grammar.proofs.Invariant.{put_hold, put_frames, put_state, next_kind, IsHold, AreBegun, IsTyped, IsFixed, AreFrames, IsWords, IsState, IsStep, MayStep, may_if}
+use Rattle.jd_grammar.proofs.Close.{le_of, touches_of}
 use Rattle.jd_grammar.proofs.RowFacts.{both, eq_of, even_cell, even_row, first_row, same_begun, many_with_cell}
 use Rattle.jd_grammar.proofs.RowSplit.{put_with_cell, are_with_cell, tight_leaf}
 use Rattle.jd_grammar.proofs.BracketSteps.{Stand}

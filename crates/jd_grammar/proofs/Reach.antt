@@ -1,16 +1,16 @@
 -- The machine reads each expression of the grammar.
-use Rattle.std.proofs.Common.{ℕ, ◌≡◌, ◌≤◌, ◌<◌, ◌+◌, Bool, true, false, ◌&&◌, IsTrue, List, [], ◌∷◌, Option, Some, None, nat_le, if◌then◌else◌, refl, sym, ap, subst, ◌∙◌, arith}
+use Rattle.std.proofs.Common.{ℕ, ◌≡◌, ◌≤◌, ◌+◌, Bool, true, false, ◌&&◌, IsTrue, List, ◌∷◌, Some, None, nat_le, if◌then◌else◌, refl, sym, ap, subst, ◌∙◌, arith}
 use Rattle.jd_grammar.specs.declared.token.Token.{Token}
 use Rattle.jd_grammar.specs.declared.token.Word.{Word}
 use Rattle.jd_grammar.specs.declared.token.Word.TheVariants as word
 use Rattle.jd_grammar.specs.declared.token.Kind.{Kind}
-use Rattle.jd_grammar.specs.declared.token.Kind.TheVariants.{Number, Wide, Name, Minus, Question, Colon, Comma, Semicolon, Arrow, Assign, For, In, OpenParen, CloseParen, OpenBracket, CloseBracket, OpenBrace, CloseBrace}
-use Rattle.jd_grammar.specs.Kinds.{is_leaf, is_least, is_name, is_number, is_unary, is_minus, is_argument, is_spawn, strength, left, stands, is_word, is_element_type}
-use Rattle.jd_grammar.specs.Grammar.{Channel, Syntax, leaf, sign, ending, bracket, matrix, comprehension, remote, Head, unary, binary, choice, lambda, spawn, keyword, Bracket, grouped, called, itemed, indexed, Cells, no_cells, cell, row, Items, none, more, Maybe, nothing, just, Generators, no_more, generator, put, put_head, put_bracket, put_cells, put_items, put_maybe, put_generators, put_channel, closes, opens, item_level, is_separator, is_shape, touches, last_touches, is_tight, is_atom, is_spaced, is_row, are_many, is_full, count, asks, level, is_negation, are_parameters, is_name_leaf, IsAt, IsHead, IsBracket, AreCells, AreItems, IsAtMaybe, AreGenerators, IsChannel}
+use Rattle.jd_grammar.specs.declared.token.Kind.TheVariants.{Number, Wide, Name, Question, Colon, Comma, Arrow, Assign, For, In, OpenParen, OpenBracket, CloseBracket, OpenBrace, CloseBrace}
+use Rattle.jd_grammar.specs.Kinds.{is_leaf, is_least, is_name, is_number, is_minus, left, stands, is_word, is_element_type}
+use Rattle.jd_grammar.specs.Grammar.{Channel, Syntax, leaf, sign, ending, bracket, matrix, comprehension, remote, Head, unary, binary, choice, lambda, spawn, keyword, Bracket, grouped, called, itemed, indexed, Cells, no_cells, cell, row, Items, none, more, Maybe, nothing, just, Generators, no_more, generator, put, put_head, put_bracket, put_cells, put_items, put_maybe, put_generators, put_channel, closes, opens, item_level, is_shape, last_touches, is_tight, is_atom, are_many, is_full, count, asks, level, is_negation, IsAt, IsHead, IsBracket, AreCells, AreItems, IsAtMaybe, AreGenerators, IsChannel}
 use Rattle.jd_grammar.specs.Rows.{is_chain, with_cell, joined, first_of, cells_of}
-use Rattle.jd_grammar.specs.Frames.{Hold, spawning, rows, Fixed, in_bracket, in_middle, in_group, in_generator, in_size, in_place, Frame, open_end, fixed, Words, operator, atoms, minus, generator_name, generator_in, element_type, type_end, size_begin, place_begin, State, want, have, await, demand, demand_of, ranges, ranges_in, negated}
-use Rattle.jd_grammar.specs.Machine.{close, with_item, with_generator, item_step, bracket_step, want_step, filled, atom_step, minus_step, group_step, at_binary, at_question, at_arrow, at_keyword, at_end, fixed_step, generator_step, generator_name_step, generator_in_step, type_end_step, size_begin_step, size_step, place_begin_step, place_step, have_step, words_step, step}
-use Rattle.jd_grammar.proofs.Close.{test_le, test_gt, strength_le, level_asks, asks_le, demand_le, weaken, touches_of}
+use Rattle.jd_grammar.specs.Frames.{Hold, spawning, rows, Fixed, in_bracket, in_middle, in_group, in_generator, in_size, in_place, Frame, open_end, fixed, atoms, generator_name, generator_in, element_type, type_end, size_begin, place_begin, State, want, have, await, demand, ranges, negated}
+use Rattle.jd_grammar.specs.Machine.{close, with_item, with_generator, bracket_step, filled, group_step, at_binary, at_end, fixed_step, generator_step, generator_in_step, type_end_step, size_begin_step, size_step, place_begin_step, place_step}
+use Rattle.jd_grammar.proofs.Close.{test_le, level_asks, asks_le, demand_le}
 use Rattle.jd_grammar.proofs.PartSteps.{count_with_generator}
 use Rattle.jd_grammar.proofs.Steps.{Follows, at_want, at_have, if_some, and_true, leaf_steps, unary_steps, spawn_steps, left_ge, left_le, strength_left, stays, binary_steps, question_steps, arrow_steps, keyword_steps, is_ender, ender_have, separator_ends, closer_ends, for_ends, comma_ends, item_steps, close_steps, empty_steps, sign_runs, leaf_atom, minus_atom, open_atom, minus_of}
 use Rattle.jd_grammar.proofs.RowFacts.{prefix_begun, prefix_goes}

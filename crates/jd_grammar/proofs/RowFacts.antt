@@ -1,8 +1,8 @@
 -- How the numbers of atoms in rows change with each cell.
-use Rattle.std.proofs.Common.{ℕ, zero, suc, ◌≡◌, ◌≤◌, ◌<◌, ◌+◌, ◌-◌, Bool, true, false, ◌&&◌, IsTrue, Option, Some, None, nat_le, nat_eq, if◌then◌else◌, refl, sym, ap, subst, ◌∙◌, arith}
+use Rattle.std.proofs.Common.{ℕ, zero, suc, ◌≡◌, ◌≤◌, ◌+◌, Bool, true, false, ◌&&◌, IsTrue, Option, Some, None, nat_le, nat_eq, refl, sym, ap, ◌∙◌, arith}
 use Rattle.std.proofs.lemmas.Bool.Decides.{nat_tests}
 use Rattle.jd_grammar.specs.declared.token.Token.{Token}
-use Rattle.jd_grammar.specs.Trees.{Syntax, leaf, sign, ending, bracket, matrix, comprehension, remote, unary, binary, choice, lambda, spawn, keyword, grouped, called, itemed, indexed, Cells, no_cells, cell, row}
+use Rattle.jd_grammar.specs.Trees.{Syntax, leaf, ending, bracket, unary, binary, grouped, called, Cells, no_cells, cell, row}
 use Rattle.jd_grammar.specs.Rows.{with_cell, joined, first_of, cells_of, are_many, most_atoms, count_cells, first_width, last_width, are_even, is_full, are_begun, may_go_on}
 use Rattle.jd_grammar.specs.Shortest.{zero_token, fill, missing}
 

@@ -1,14 +1,14 @@
 -- An expression that is written as atoms, taken apart.
-use Rattle.std.proofs.Common.{ℕ, ◌≡◌, ◌≤◌, ◌+◌, Bool, true, false, ◌&&◌, IsTrue, List, [], ◌∷◌, Option, Some, None, if◌then◌else◌, refl, sym, ap, subst, ◌∙◌, arith}
+use Rattle.std.proofs.Common.{ℕ, ◌≡◌, ◌≤◌, Bool, true, false, ◌&&◌, IsTrue, List, ◌∷◌, Option, Some, None, if◌then◌else◌, refl, sym, ap, subst, ◌∙◌, arith}
 use Rattle.jd_grammar.specs.declared.token.Token.{Token}
 use Rattle.jd_grammar.specs.declared.token.Kind.{Kind}
-use Rattle.jd_grammar.specs.declared.token.Kind.TheVariants.{Number, Wide, Name, Minus, Semicolon, OpenParen, CloseParen}
+use Rattle.jd_grammar.specs.declared.token.Kind.TheVariants.{Number, Wide, Name, Minus, Semicolon}
 use Rattle.jd_grammar.specs.Kinds.{is_leaf, is_number, is_name, is_least, is_unary, is_minus}
-use Rattle.jd_grammar.specs.Grammar.{Syntax, leaf, sign, ending, bracket, matrix, comprehension, remote, Head, unary, binary, choice, lambda, spawn, keyword, Bracket, grouped, called, itemed, indexed, Cells, no_cells, cell, row, none, more, nothing, just, put, put_cells, level, is_negation, is_tight, is_atom, is_spaced, IsAt, IsHead, AreCells}
+use Rattle.jd_grammar.specs.Grammar.{Syntax, leaf, sign, ending, bracket, matrix, comprehension, remote, unary, binary, choice, lambda, spawn, keyword, grouped, called, itemed, indexed, Cells, no_cells, cell, row, none, more, nothing, just, put, put_cells, is_tight, is_atom, is_spaced, IsAt, AreCells}
 use Rattle.jd_grammar.specs.Rows.{begins_tight, is_plain, is_chain, is_long, is_row, with_cell, joined, first_of, cells_of, are_many}
 use Rattle.jd_grammar.proofs.Invariant.{put_pending}
 use Rattle.jd_grammar.proofs.Close.{weaken, touches_of}
-use Rattle.jd_grammar.proofs.RowFacts.{both, and_true, many_with_cell, many_joined}
+use Rattle.jd_grammar.proofs.RowFacts.{both, many_with_cell, many_joined}
 
 -- ---- cells
 

@@ -1,16 +1,16 @@
 -- The steps that the atoms of a matrix lead to.
-use Rattle.std.proofs.Common.{ℕ, ◌≡◌, ◌≤◌, ◌<◌, ◌+◌, Bool, true, false, ◌&&◌, not, IsTrue, List, [], ◌∷◌, Option, Some, None, nat_le, if◌then◌else◌, refl, sym, ap, subst, ◌∙◌, arith}
+use Rattle.std.proofs.Common.{ℕ, ◌≡◌, ◌≤◌, Bool, true, false, ◌&&◌, not, IsTrue, List, ◌∷◌, Option, Some, None, nat_le, if◌then◌else◌, refl, sym, ap, ◌∙◌, arith}
 use Rattle.jd_grammar.specs.declared.token.Token.{Token}
 use Rattle.jd_grammar.specs.declared.token.Kind.{Kind}
-use Rattle.jd_grammar.specs.declared.token.Kind.TheVariants.{Number, Wide, Name, Minus, Semicolon, OpenParen, CloseParen, OpenBracket, CloseBracket}
-use Rattle.jd_grammar.specs.Kinds.{is_leaf, is_least, is_name, is_number, is_minus, strength, left, stands}
-use Rattle.jd_grammar.specs.Grammar.{Syntax, leaf, sign, ending, bracket, matrix, comprehension, remote, Head, unary, binary, choice, lambda, spawn, keyword, Bracket, grouped, called, itemed, indexed, Cells, no_cells, cell, row, Items, none, more, Maybe, nothing, just, put, put_cells, closes, is_shape, touches, is_tight, is_atom, is_spaced, is_row, are_many, is_full, level, IsAt, AreCells}
+use Rattle.jd_grammar.specs.declared.token.Kind.TheVariants.{Number, Wide, Name, Minus, Semicolon, CloseBracket}
+use Rattle.jd_grammar.specs.Kinds.{is_least, is_name, is_number, is_minus, strength}
+use Rattle.jd_grammar.specs.Grammar.{Syntax, leaf, sign, ending, bracket, matrix, unary, binary, choice, lambda, spawn, keyword, grouped, called, itemed, indexed, Cells, no_cells, cell, row, none, more, nothing, just, touches, is_tight, is_atom, is_spaced, is_row, are_many, is_full}
 use Rattle.jd_grammar.specs.Rows.{begins_tight, is_plain, is_chain, is_long, with_cell, joined, first_of, cells_of, are_begun, may_go_on}
-use Rattle.jd_grammar.specs.Frames.{Hold, spawning, rows, Fixed, in_bracket, Frame, open_end, fixed, Words, atoms, State, want, have, await}
-use Rattle.jd_grammar.specs.Machine.{close, is_closer, bracket_step, close_step, row_end, second_step, semicolon_step, takes, filled, next_row, rows_end, atoms_step, wide_step, want_step, at_end, at_binary, have_step}
+use Rattle.jd_grammar.specs.Frames.{Hold, spawning, rows, in_bracket, Frame, open_end, fixed, atoms, want, have, await}
+use Rattle.jd_grammar.specs.Machine.{close, is_closer, row_end, takes, atoms_step, want_step, at_end, at_binary, have_step}
 use Rattle.jd_grammar.proofs.Close.{test_le}
-use Rattle.jd_grammar.proofs.RowFacts.{both, and_true, many_with_cell, many_joined, same_begun, prefix_begun, prefix_goes}
-use Rattle.jd_grammar.proofs.Steps.{Follows, at_want, at_have, if_some, leaf_steps, minus_of}
+use Rattle.jd_grammar.proofs.RowFacts.{both, and_true, same_begun}
+use Rattle.jd_grammar.proofs.Steps.{Follows, if_some}
 
 -- ---- lists of cells
 

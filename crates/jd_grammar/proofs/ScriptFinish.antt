@@ -1,19 +1,19 @@
 -- Some end makes a script of what was read.
-use Rattle.std.proofs.Common.{ℕ, ◌≡◌, ◌≤◌, ◌<◌, ◌+◌, max, Bool, true, false, ◌&&◌, not, IsTrue, List, [], ◌∷◌, ◌++◌, Option, Some, None, nat_eq, if◌then◌else◌, refl, sym, ap, subst, ◌∙◌, arith}
+use Rattle.std.proofs.Common.{ℕ, ◌≡◌, ◌≤◌, ◌<◌, ◌+◌, max, true, false, ◌&&◌, not, IsTrue, List, [], ◌∷◌, refl, sym, ap, subst, ◌∙◌, arith}
 use Rattle.std.proofs.lemmas.Bool.Decides.{nat_tests}
 use Rattle.jd_grammar.specs.declared.token.Token.{Token}
 use Rattle.jd_grammar.specs.declared.token.Word.TheVariants as word
 use Rattle.jd_grammar.specs.declared.token.Name.TheVariants as name
 use Rattle.jd_grammar.specs.declared.token.Kind.{Kind}
 use Rattle.jd_grammar.specs.declared.token.Kind.TheVariants.{Number, Name, For, In, Catch, End, Using, Plus, Comma, Assign, OpenParen, CloseParen, LineEnd}
-use Rattle.jd_grammar.specs.Grammar.{Syntax, leaf, are_same, put, IsAt}
-use Rattle.jd_grammar.specs.Frames.{Frame, Now, wanted, got, pending, State, want, have}
-use Rattle.jd_grammar.specs.Script.{Parameters, no_parameters, first, next, Signature, Packages, using_first, using_next, Lead, bare, assigned, updated, defined, defined_everywhere, returned, Target, no_target, target, Header, while_head, if_head, elseif_head, for_head, distributed_head, Opening, headed, else_open, try_open, catch_open, catch_name, function_open, Stmt, ended, alone, packages, packages_everywhere, blocks, Prior, begun, Before, fresh, behind, Block, block, Lines, no_lines, line, Place, empty, stmt, Scope, outermost, within, put_parameters, put_lead, put_header, put_opening, put_stmt, put_before, put_block, put_lines, put_place, Role, starting, conditional, trying, settled, role_of, role_before, header_follows, follows, may_end, is_fresh, is_alone, AreParameters, IsSignature, IsLead, IsHeader, IsOpening, IsStmt, IsBefore, IsBlock, AreLines, IsPlace}
-use Rattle.jd_grammar.specs.Reader.{Outer, Context, Bottom, in_lead, in_header, Owner, of_function, of_everywhere, Awaited, for_name, for_in, distributed_open, distributed_reducer, distributed_close, distributed_for, distributed_name, distributed_in, function_name, signature_open, signature_first, signature_next, signature_name, signature_end, everywhere, everywhere_package, package_first, package_next, catch_words, catch_named, Mode, at_expression, at_words, complete, Config, scope, is_trying}
-use Rattle.jd_grammar.proofs.Invariant.{put_state, IsState}
+use Rattle.jd_grammar.specs.Grammar.{Syntax, are_same}
+use Rattle.jd_grammar.specs.Frames.{Frame, Now, wanted, State, want}
+use Rattle.jd_grammar.specs.Script.{Parameters, no_parameters, first, next, Signature, using_first, using_next, Lead, bare, assigned, updated, defined, defined_everywhere, returned, Target, Header, while_head, if_head, elseif_head, for_head, distributed_head, Opening, headed, else_open, try_open, catch_open, catch_name, function_open, Stmt, ended, alone, packages, packages_everywhere, blocks, begun, Before, fresh, behind, Block, block, Lines, no_lines, Place, empty, stmt, Scope, outermost, within, put_parameters, put_lead, put_header, put_opening, put_stmt, put_before, put_block, put_lines, put_place, Role, trying, role_of, role_before, follows, may_end, is_fresh, is_alone, AreParameters, IsSignature, IsLead, IsOpening, IsStmt, IsBefore, IsBlock, AreLines, IsPlace}
+use Rattle.jd_grammar.specs.Reader.{Outer, Bottom, in_lead, in_header, Owner, of_function, of_everywhere, Awaited, for_name, for_in, distributed_open, distributed_reducer, distributed_close, distributed_for, distributed_name, distributed_in, function_name, signature_open, signature_first, signature_next, signature_name, signature_end, everywhere, everywhere_package, package_first, package_next, catch_words, catch_named, Mode, at_expression, at_words, complete, Config, scope, is_trying}
+use Rattle.jd_grammar.proofs.Invariant.{IsState}
 use Rattle.jd_grammar.specs.Shortest.{token, zero_leaf, a_name, whole, to_end}
 use Rattle.jd_grammar.proofs.Finish.{whole_ok, whole_put}
-use Rattle.jd_grammar.proofs.Context.{put_outer, put_context, put_bottom, put_owner, put_awaited, put_mode, put_config, AreOuter, IsBottom, IsOwner, IsOwned, are_some, IsAwaited, IsMode, IsContext, IsConfig}
+use Rattle.jd_grammar.proofs.Context.{put_outer, put_context, put_owner, put_mode, put_config, AreOuter, IsBottom, IsOwner, are_some, IsAwaited, IsMode, IsConfig}
 
 -- ---- a statement's end
 

@@ -1,27 +1,27 @@
 -- The least depth of a script that begins with what was read never falls, and some end has it.
-use Rattle.std.proofs.Common.{ℕ, ◌≡◌, ◌≤◌, ◌<◌, ◌+◌, max, Bool, true, false, ◌&&◌, not, IsTrue, List, [], ◌∷◌, ◌++◌, Option, Some, None, if◌then◌else◌, refl, sym, ap, subst, ◌∙◌, arith}
+use Rattle.std.proofs.Common.{ℕ, ◌≡◌, ◌≤◌, ◌+◌, max, Bool, true, false, ◌&&◌, not, List, [], ◌∷◌, Option, Some, None, if◌then◌else◌, refl, sym, ap, subst, ◌∙◌, arith}
 use Rattle.jd_grammar.specs.declared.token.Token.{Token}
 use Rattle.jd_grammar.specs.declared.token.Kind.{Kind}
-use Rattle.jd_grammar.specs.declared.token.Kind.TheVariants.{Name, Function, If, Elseif, Else, While, For, In, Try, Catch, Return, Break, Continue, End, Using, DistributedFor, Everywhere, Comma, Assign, PlusAssign, MinusAssign, StarAssign, OpenParen, CloseParen, Semicolon, LineEnd}
-use Rattle.jd_grammar.specs.Kinds.{is_name, is_comma}
+use Rattle.jd_grammar.specs.declared.token.Kind.TheVariants.{Name, Function, If, Elseif, Else, While, For, Try, Catch, Return, Break, Continue, End, Using, DistributedFor, Everywhere, Comma, Assign, PlusAssign, MinusAssign, StarAssign, CloseParen, Semicolon, LineEnd}
+use Rattle.jd_grammar.specs.Kinds.{is_name}
 use Rattle.jd_grammar.specs.Grammar.{Syntax, leaf, bracket, called, Items, none, more, Maybe, nothing, just, is_name_leaf, are_names, are_distinct, name_of, is_list_of_names}
-use Rattle.jd_grammar.specs.Frames.{Frame, open_end, fixed, Now, wanted, got, pending, State, want, have}
+use Rattle.jd_grammar.specs.Frames.{Frame, Now, wanted, got, pending, State, want, have}
 use Rattle.jd_grammar.specs.Machine as expression
 use Rattle.jd_grammar.specs.Machine.{close}
 use Rattle.jd_grammar.specs.Depth.{height, height_items, height_maybe}
 use Rattle.jd_grammar.specs.Shortest as least
 use Rattle.jd_grammar.specs.Shortest.{wrap, whole}
 use Rattle.jd_grammar.specs.Script.{is_fresh as is_fresh_name}
-use Rattle.jd_grammar.specs.Script.{Parameters, no_parameters, first, next, Signature, Packages, using_first, using_next, Lead, bare, assigned, updated, defined, defined_everywhere, returned, Target, no_target, target, Header, while_head, if_head, elseif_head, for_head, distributed_head, Opening, headed, else_open, try_open, catch_open, catch_name, function_open, Stmt, ended, alone, packages, packages_everywhere, blocks, Prior, begun, Before, fresh, behind, Block, block, Lines, no_lines, line, Place, empty, stmt, Role, starting, conditional, trying, settled, role_of, may_end, is_separator, is_in, is_reducer, is_package, is_signature, are_commas, Scope, IsBlock, outermost}
-use Rattle.jd_grammar.specs.Reader.{is_open, is_close, is_for, is_assign, Outer, Context, Bottom, in_lead, in_header, Owner, of_function, of_everywhere, Awaited, for_name, for_in, distributed_open, distributed_reducer, distributed_close, distributed_for, distributed_name, distributed_in, function_name, signature_open, signature_first, signature_next, signature_name, signature_end, everywhere, everywhere_package, package_first, package_next, catch_words, catch_named, Mode, at_expression, at_words, complete, Config, beginning, start, scope, Whole, nothing_whole, a_place, a_header, with_expression, without_expression, whole_at, at_line, open_block, leave, in_outer, end_block, is_conditional, is_trying, elseif_block, else_block, catch_block, separator_step, at_place, ending_step, go, only_if, begin_step, value_step, assign_step, update_step, target_step, statement_step, close_signature, first_step, next_step, everywhere_step, catch_step, words_step, complete_step, either, mode_step, step, and_then, run, whole_of, finish_place, finish}
-use Rattle.jd_grammar.specs.ScriptDepth.{lead_weight, target_weight, header_weight, weight, height_opening, depth_stmt, height_prior, height_before, depth_inner, depth_lines, depth_place, depth, is_fresh, lead_needs, awaited_needs, mode_needs, has_begun, has_token, outer_needs, round_needs, needs}
-use Rattle.jd_grammar.proofs.Invariant.{IsState, IsStep, MayStep, both}
+use Rattle.jd_grammar.specs.Script.{no_parameters, next, Signature, using_first, using_next, bare, assigned, updated, defined, defined_everywhere, returned, while_head, if_head, elseif_head, for_head, distributed_head, Opening, headed, else_open, try_open, catch_open, catch_name, function_open, Stmt, ended, alone, packages, packages_everywhere, blocks, begun, Before, fresh, behind, Block, block, Lines, no_lines, line, Place, empty, stmt, role_of, may_end, is_separator, is_in, is_reducer, is_package, is_signature, are_commas, Scope}
+use Rattle.jd_grammar.specs.Reader.{is_open, is_close, is_for, is_assign, Outer, Context, Bottom, in_lead, in_header, Owner, of_function, of_everywhere, Awaited, for_name, for_in, distributed_open, distributed_reducer, distributed_close, distributed_for, distributed_name, distributed_in, function_name, signature_open, signature_first, signature_next, signature_name, signature_end, everywhere, everywhere_package, package_first, package_next, catch_words, catch_named, Mode, at_expression, at_words, complete, Config, scope, Whole, nothing_whole, a_place, a_header, with_expression, without_expression, whole_at, open_block, leave, in_outer, end_block, is_conditional, is_trying, elseif_block, else_block, catch_block, separator_step, at_place, ending_step, go, only_if, begin_step, value_step, assign_step, update_step, target_step, statement_step, close_signature, first_step, next_step, everywhere_step, catch_step, words_step, complete_step, either, mode_step, step, and_then, run, whole_of, finish_place, finish}
+use Rattle.jd_grammar.specs.ScriptDepth.{lead_weight, target_weight, header_weight, weight, height_opening, depth_stmt, height_before, depth_inner, depth_lines, depth_place, depth, is_fresh, awaited_needs, mode_needs, has_begun, has_token, outer_needs, round_needs, needs}
+use Rattle.jd_grammar.proofs.Invariant.{IsState, MayStep, both}
 use Rattle.jd_grammar.proofs.Sound.{step_ok}
 use Rattle.jd_grammar.proofs.Nesting as least_needs
 use Rattle.jd_grammar.proofs.Nesting.{step_needs}
 use Rattle.jd_grammar.proofs.Under.{close_wrap}
 use Rattle.jd_grammar.proofs.Begun as begun_lemmas
-use Rattle.jd_grammar.proofs.Context.{IsMode, IsContext, IsConfig, MayGo, IsNext}
+use Rattle.jd_grammar.proofs.Context.{IsMode, IsConfig, MayGo}
 use Rattle.jd_grammar.proofs.ScriptSound.{next_config}
 use Rattle.jd_grammar.proofs.ScriptFinish.{bare_end, return_end, expression_end, owned, a_signature, opens_with, new_name, words_end, mode_end, shut, shut_blocks, script}
 

@@ -1,15 +1,15 @@
 -- The machine reads each script of the grammar.
-use Rattle.std.proofs.Common.{ℕ, ◌≡◌, ◌≤◌, ◌+◌, Bool, true, false, ◌&&◌, IsTrue, List, [], ◌∷◌, ◌++◌, Option, Some, None, if◌then◌else◌, refl, sym, ap, subst, ◌∙◌, arith}
+use Rattle.std.proofs.Common.{◌≡◌, Bool, true, false, IsTrue, List, [], ◌∷◌, Some, refl, ap, ◌∙◌, arith}
 use Rattle.jd_grammar.specs.declared.token.Token.{Token}
 use Rattle.jd_grammar.specs.declared.token.Kind.{Kind}
-use Rattle.jd_grammar.specs.declared.token.Kind.TheVariants.{Name, Elseif, Else, Try, Catch, Return, Break, Continue, End, Semicolon, LineEnd}
+use Rattle.jd_grammar.specs.declared.token.Kind.TheVariants.{Name, Elseif, Else, Catch, Return, Break, Continue, End, Semicolon, LineEnd}
 use Rattle.jd_grammar.specs.Kinds.{is_name}
 use Rattle.jd_grammar.specs.Grammar.{Syntax, put, IsAt}
-use Rattle.jd_grammar.specs.Frames.{Frame, State, want, have}
+use Rattle.jd_grammar.specs.Frames.{want, have}
 use Rattle.jd_grammar.specs.Machine.{close, want_step}
-use Rattle.jd_grammar.specs.Script.{Lead, bare, returned, Header, while_head, if_head, elseif_head, for_head, distributed_head, Opening, headed, else_open, try_open, catch_open, catch_name, function_open, Stmt, ended, alone, packages, packages_everywhere, blocks, Prior, begun, Before, fresh, behind, Block, block, Lines, no_lines, line, Place, empty, stmt, Scope, outermost, within, inside, put_lead, put_header, put_opening, put_stmt, put_prior, put_before, put_block, put_lines, put_place, Role, starting, conditional, trying, role_of, role, role_before, header_follows, follows, may_end, is_separator, is_alone, IsLead, IsHeader, IsOpening, IsStmt, IsPrior, IsBefore, IsBlock, AreLines, IsPlace}
-use Rattle.jd_grammar.specs.Reader.{Outer, Context, Bottom, in_lead, in_header, catch_words, catch_named, Mode, at_expression, at_words, complete, Config, beginning, start, scope, Whole, nothing_whole, a_place, a_header, with_expression, whole_at, at_line, open_block, leave, in_outer, end_block, is_conditional, is_trying, elseif_block, else_block, catch_block, ending_step, go, only_if, catch_step, either, step, and_then, run, whole_of, finish_place, finish}
-use Rattle.jd_grammar.proofs.Reach.{IsReached, no_sign, reach}
+use Rattle.jd_grammar.specs.Script.{Lead, bare, returned, while_head, if_head, elseif_head, for_head, distributed_head, Opening, headed, else_open, try_open, catch_open, catch_name, function_open, Stmt, ended, alone, packages, packages_everywhere, blocks, Prior, begun, Before, fresh, behind, Block, block, Lines, no_lines, line, Place, empty, stmt, outermost, put_opening, put_stmt, put_prior, put_block, put_lines, put_place, Role, starting, conditional, trying, role_of, header_follows, follows, may_end, is_separator, is_alone, IsLead, IsOpening, IsStmt, IsPrior, IsBlock, AreLines, IsPlace}
+use Rattle.jd_grammar.specs.Reader.{Outer, Context, in_lead, in_header, catch_words, catch_named, Mode, at_expression, at_words, complete, Config, beginning, start, scope, a_place, with_expression, open_block, in_outer, is_conditional, is_trying, ending_step, go, catch_step, either, step, and_then, run, whole_of, finish_place, finish}
+use Rattle.jd_grammar.proofs.Reach.{no_sign, reach}
 use Rattle.jd_grammar.proofs.ScriptSteps.{follow, is_ending, separator_ends, expression_ends, beginning_ends, returned_ends, complete_ends, line_ends, header_runs, only_runs, only_some, word_runs, function_runs, lead_runs, fresh_header_runs, packages_run, packages_everywhere_run}
 
 -- A place has been read: whatever ends it finds it whole.

@@ -1,19 +1,19 @@
 -- What has been read of a script is what the configuration is written with, and each part of it is in the grammar.
-use Rattle.std.proofs.Common.{ℕ, ◌≡◌, ◌≤◌, ◌+◌, Bool, true, false, ◌&&◌, IsTrue, List, [], ◌∷◌, ◌++◌, Option, Some, None, if◌then◌else◌, refl, sym, ap, subst, ◌∙◌, arith}
+use Rattle.std.proofs.Common.{ℕ, ◌≡◌, Bool, true, false, ◌&&◌, IsTrue, List, [], ◌∷◌, ◌++◌, Option, Some, None, refl, sym, ap, subst, ◌∙◌, arith}
 use Rattle.jd_grammar.specs.declared.token.Token.{Token}
 use Rattle.jd_grammar.specs.declared.token.Kind.{Kind}
-use Rattle.jd_grammar.specs.declared.token.Kind.TheVariants.{Name, Function, If, Elseif, Else, While, For, In, Try, Catch, Return, Break, Continue, End, Using, DistributedFor, Everywhere, Comma, Assign, PlusAssign, MinusAssign, StarAssign, OpenParen, CloseParen, Semicolon, LineEnd}
+use Rattle.jd_grammar.specs.declared.token.Kind.TheVariants.{Name, Function, If, Elseif, Else, While, For, Try, Catch, Return, Break, Continue, End, Using, DistributedFor, Everywhere, Comma, Assign, PlusAssign, MinusAssign, StarAssign, OpenParen, CloseParen, Semicolon, LineEnd}
 use Rattle.jd_grammar.specs.Kinds.{is_name}
 use Rattle.jd_grammar.specs.Grammar.{Syntax, leaf, put, IsAt}
-use Rattle.jd_grammar.specs.Frames.{Frame, open_end, fixed, Now, wanted, got, pending, State, want, have}
+use Rattle.jd_grammar.specs.Frames.{Frame, Now, wanted, got, pending, State, want, have}
 use Rattle.jd_grammar.specs.Machine as expression
 use Rattle.jd_grammar.specs.Machine.{close}
-use Rattle.jd_grammar.specs.Script.{Parameters, no_parameters, first, next, Signature, Packages, using_first, using_next, Lead, bare, assigned, updated, defined, defined_everywhere, returned, Target, no_target, target, Header, while_head, if_head, elseif_head, for_head, distributed_head, Opening, headed, else_open, try_open, catch_open, catch_name, function_open, Stmt, ended, alone, packages, packages_everywhere, blocks, Prior, begun, Before, fresh, behind, Block, block, Lines, no_lines, line, Place, empty, stmt, Scope, outermost, within, put_parameters, put_lines, put_place, put_before, put_opening, put_block, Role, starting, conditional, trying, settled, role_of, role_before, header_follows, follows, may_end, is_separator, is_update, is_in, is_reducer, is_package, is_signature, is_fresh, is_alone, AreParameters, IsSignature, IsLead, IsHeader, IsOpening, IsStmt, IsPrior, IsBefore, IsBlock, AreLines, IsPlace}
-use Rattle.jd_grammar.specs.Reader.{Outer, Context, Bottom, in_lead, in_header, Owner, of_function, of_everywhere, Awaited, for_name, for_in, distributed_open, distributed_reducer, distributed_close, distributed_for, distributed_name, distributed_in, function_name, signature_open, signature_first, signature_next, signature_name, signature_end, everywhere, everywhere_package, package_first, package_next, catch_words, catch_named, Mode, at_expression, at_words, complete, Config, beginning, start, scope, Whole, nothing_whole, a_place, a_header, with_expression, without_expression, whole_at, at_line, open_block, leave, in_outer, end_block, is_conditional, is_trying, elseif_block, else_block, catch_block, separator_step, at_place, ending_step, go, only_if, begin_step, value_step, assign_step, update_step, target_step, statement_step, close_signature, first_step, next_step, everywhere_step, catch_step, is_open, is_close, is_for, is_assign, words_step, complete_step, either, mode_step, step, and_then, run, whole_of, finish_place, finish}
-use Rattle.jd_grammar.proofs.Invariant.{put_frames, put_state, IsState, IsStep, MayStep, both}
+use Rattle.jd_grammar.specs.Script.{Parameters, no_parameters, first, next, using_first, using_next, bare, assigned, updated, defined, defined_everywhere, returned, no_target, target, Header, while_head, if_head, elseif_head, for_head, distributed_head, Opening, headed, else_open, try_open, catch_open, catch_name, function_open, Stmt, ended, alone, packages, packages_everywhere, blocks, begun, Before, fresh, behind, Block, block, Lines, Place, stmt, Scope, outermost, within, put_parameters, put_lines, put_place, put_before, put_opening, put_block, Role, conditional, trying, role_of, role_before, header_follows, follows, may_end, is_separator, is_update, is_in, is_reducer, is_package, is_signature, is_fresh, is_alone, AreParameters, IsLead, IsOpening, IsStmt, IsPrior, IsBefore, IsBlock, AreLines, IsPlace}
+use Rattle.jd_grammar.specs.Reader.{Outer, Context, Bottom, in_lead, in_header, Owner, of_function, of_everywhere, Awaited, for_name, for_in, distributed_open, distributed_reducer, distributed_close, distributed_for, distributed_name, distributed_in, function_name, signature_open, signature_first, signature_next, signature_name, signature_end, everywhere, everywhere_package, package_first, package_next, catch_words, catch_named, Mode, at_expression, at_words, complete, Config, beginning, start, scope, Whole, nothing_whole, a_place, a_header, with_expression, without_expression, whole_at, open_block, leave, in_outer, end_block, is_conditional, is_trying, elseif_block, else_block, catch_block, separator_step, at_place, ending_step, go, only_if, begin_step, value_step, assign_step, update_step, target_step, statement_step, close_signature, first_step, next_step, everywhere_step, catch_step, is_open, is_close, is_for, is_assign, words_step, complete_step, either, mode_step, step, and_then, run, whole_of, finish_place, finish}
+use Rattle.jd_grammar.proofs.Invariant.{put_frames, put_state, IsState, MayStep, both}
 use Rattle.jd_grammar.proofs.Close.{weaken, close_put, IsClosed, closed}
 use Rattle.jd_grammar.proofs.Sound.{step_ok}
-use Rattle.jd_grammar.proofs.Context.{put_outer, put_context, put_bottom, put_owner, put_mode, put_config, AreOuter, IsBottom, IsOwner, IsOwned, IsReducing, are_some, IsAwaited, IsMode, IsContext, IsConfig, IsWhole, IsNext, MayGo, may_go_if}
+use Rattle.jd_grammar.proofs.Context.{put_outer, put_context, put_bottom, put_owner, put_mode, put_config, AreOuter, IsBottom, IsOwned, are_some, IsAwaited, IsMode, IsContext, IsConfig, IsWhole, IsNext, MayGo, may_go_if}
 
 -- ---- what is whole
 

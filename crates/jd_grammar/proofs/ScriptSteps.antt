@@ -1,18 +1,17 @@
 -- The steps that a statement's own tokens lead to.
-use Rattle.std.proofs.Common.{ℕ, ◌≡◌, ◌≤◌, ◌+◌, Bool, true, false, ◌&&◌, IsTrue, List, [], ◌∷◌, Option, Some, None, nat_le, if◌then◌else◌, refl, sym, ap, subst, ◌∙◌, arith}
+use Rattle.std.proofs.Common.{◌≡◌, Bool, true, false, ◌&&◌, IsTrue, List, [], ◌∷◌, Option, Some, None, refl, ap, ◌∙◌, arith}
 use Rattle.jd_grammar.specs.declared.token.Token.{Token}
 use Rattle.jd_grammar.specs.declared.token.Kind.{Kind}
-use Rattle.jd_grammar.specs.declared.token.Kind.TheVariants.{Name, Function, If, Elseif, Else, While, For, In, Try, Catch, Return, Break, Continue, End, Using, DistributedFor, Everywhere, Comma, Assign, PlusAssign, MinusAssign, StarAssign, OpenParen, CloseParen, Semicolon, LineEnd}
-use Rattle.jd_grammar.specs.Kinds.{is_leaf, is_least, is_name}
-use Rattle.jd_grammar.specs.Grammar.{Syntax, leaf, ending, bracket, called, Items, Maybe, put, IsAt}
-use Rattle.jd_grammar.specs.Frames.{Frame, open_end, fixed, Now, wanted, got, pending, State, want, have, await}
-use Rattle.jd_grammar.specs.Machine as expression
+use Rattle.jd_grammar.specs.declared.token.Kind.TheVariants.{Name, Function, If, Elseif, Else, While, For, Catch, Return, End, Using, DistributedFor, Everywhere, Comma, Assign, PlusAssign, MinusAssign, StarAssign, OpenParen, CloseParen, Semicolon, LineEnd}
+use Rattle.jd_grammar.specs.Kinds.{is_name}
+use Rattle.jd_grammar.specs.Grammar.{Syntax, leaf, bracket, called, put, IsAt}
+use Rattle.jd_grammar.specs.Frames.{Frame, got, want, have}
 use Rattle.jd_grammar.specs.Machine.{close, have_step, want_step, at_end}
-use Rattle.jd_grammar.specs.Script.{Parameters, no_parameters, first, next, Signature, Packages, using_first, using_next, Lead, bare, assigned, updated, defined, defined_everywhere, returned, Target, no_target, target, Header, while_head, if_head, elseif_head, for_head, distributed_head, Opening, headed, function_open, Stmt, ended, alone, packages, packages_everywhere, Role, starting, header_follows, Before, fresh, behind, Lines, line, Place, empty, stmt, Scope, put_parameters, put_signature, put_packages, put_lead, put_target, put_header, put_every, is_separator, is_update, is_in, is_reducer, is_package, is_signature, is_fresh, is_alone, AreParameters, IsSignature, ArePackages, IsLead, IsTarget, IsHeader, IsEvery}
-use Rattle.jd_grammar.specs.Reader.{Outer, Context, Bottom, in_lead, in_header, Owner, of_function, of_everywhere, Awaited, for_name, for_in, distributed_open, distributed_reducer, distributed_close, distributed_for, distributed_name, distributed_in, function_name, signature_open, signature_first, signature_next, signature_name, signature_end, everywhere, everywhere_package, package_first, package_next, Mode, at_expression, at_words, complete, Config, beginning, scope, Whole, nothing_whole, a_place, a_header, with_expression, whole_at, at_line, open_block, separator_step, ending_step, go, only_if, begin_step, value_step, assign_step, update_step, target_step, statement_step, close_signature, first_step, next_step, everywhere_step, is_open, is_close, is_for, is_assign, words_step, complete_step, either, mode_step, step, and_then, run, whole_of}
+use Rattle.jd_grammar.specs.Script.{Parameters, no_parameters, first, next, Signature, Packages, using_first, using_next, Lead, bare, assigned, updated, defined, defined_everywhere, returned, Target, no_target, target, Header, while_head, if_head, elseif_head, for_head, distributed_head, headed, function_open, Stmt, alone, packages, packages_everywhere, starting, header_follows, Before, fresh, line, Place, empty, stmt, put_parameters, put_signature, put_packages, put_lead, put_target, put_header, put_every, is_separator, is_update, is_in, is_reducer, is_package, is_signature, is_fresh, AreParameters, IsSignature, ArePackages, IsLead, IsTarget, IsHeader, IsEvery}
+use Rattle.jd_grammar.specs.Reader.{Context, Bottom, in_lead, in_header, Owner, of_function, of_everywhere, for_name, for_in, distributed_open, distributed_reducer, distributed_close, distributed_for, distributed_name, distributed_in, function_name, signature_open, signature_first, signature_next, everywhere, package_first, Mode, at_expression, at_words, complete, Config, beginning, scope, Whole, a_place, a_header, with_expression, whole_at, at_line, open_block, separator_step, ending_step, go, only_if, begin_step, target_step, statement_step, close_signature, first_step, next_step, everywhere_step, is_open, is_close, is_for, is_assign, complete_step, either, step, and_then, run}
 use Rattle.jd_grammar.proofs.Steps.{Follows, and_true}
-use Rattle.jd_grammar.proofs.Reach.{IsReached, no_sign, reach}
-use Rattle.jd_grammar.proofs.Context.{put_owner, are_some}
+use Rattle.jd_grammar.proofs.Reach.{no_sign, reach}
+use Rattle.jd_grammar.proofs.Context.{are_some}
 
 -- a run goes on with an expression as its machine does
 abbrev pub follow : Context → Bottom → Follows

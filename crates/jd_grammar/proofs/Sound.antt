@@ -1,16 +1,15 @@
 -- What has been read of an expression is what the state is written with, and each part of it is in the grammar.
-use Rattle.std.proofs.Common.{ℕ, ◌≡◌, ◌≤◌, ◌<◌, ◌+◌, Bool, true, false, ◌&&◌, IsTrue, List, [], ◌∷◌, Option, Some, None, nat_le, if◌then◌else◌, refl, sym, ap, subst, ◌∙◌, arith}
-use Rattle.std.proofs.lemmas.Bool.Decides.{nat_tests}
+use Rattle.std.proofs.Common.{ℕ, ◌≡◌, ◌≤◌, Bool, true, false, ◌&&◌, IsTrue, List, [], ◌∷◌, None, nat_le, if◌then◌else◌, refl, sym, ap, ◌∙◌, arith}
 use Rattle.jd_grammar.specs.declared.token.Token.{Token}
 use Rattle.jd_grammar.specs.declared.token.Word.TheVariants as word
 use Rattle.jd_grammar.specs.declared.token.Kind.{Kind}
-use Rattle.jd_grammar.specs.declared.token.Kind.TheVariants.{Number, Wide, Text, Name, True, False, Nothing, OrElse, AndAlso, Colon, SpawnAt, FetchFrom, Plus, Minus, Star, And, Or, Xor, Not, Complement, Question, Arrow, Assign, OpenParen, CloseParen, OpenBracket, OpenBrace}
+use Rattle.jd_grammar.specs.declared.token.Kind.TheVariants.{Number, Wide, Text, Name, True, False, Nothing, OrElse, AndAlso, Colon, SpawnAt, FetchFrom, Plus, Minus, Star, And, Or, Xor, Not, Complement, Question, Arrow, Assign, OpenParen, OpenBracket, OpenBrace}
 use Rattle.jd_grammar.specs.Kinds.{is_leaf, is_least, is_name, is_number, is_unary, is_minus, is_argument, is_spawn, strength, left, stands, is_word}
-use Rattle.jd_grammar.specs.Grammar.{Channel, Syntax, leaf, sign, ending, bracket, comprehension, remote, unary, binary, choice, lambda, spawn, keyword, Bracket, grouped, called, itemed, indexed, Items, none, more, nothing, just, put, is_name_leaf, name_of, are_parameters, is_tight, IsAt}
+use Rattle.jd_grammar.specs.Grammar.{Syntax, leaf, sign, ending, bracket, unary, binary, lambda, keyword, grouped, called, itemed, none, nothing, put, are_parameters, is_tight, IsAt}
 use Rattle.jd_grammar.specs.Rows.{is_chain, first_of, cells_of, with_cell, are_begun}
-use Rattle.jd_grammar.specs.Frames.{Hold, spawning, rows, Fixed, in_bracket, in_middle, in_group, in_generator, in_size, in_place, Frame, open_end, fixed, Words, operator, atoms, minus, generator_name, generator_in, element_type, type_end, size_begin, place_begin, Now, wanted, got, pending, State, want, have, await, demand, demand_of, ranges, ranges_in, negated}
-use Rattle.jd_grammar.specs.Machine.{close, bracket_step, want_end, operator_step, spawn_step, wide_step, want_step, at_binary, at_question, at_arrow, at_keyword, at_brace, fixed_step, at_end, have_more, have_step, words_step, step_at, step}
-use Rattle.jd_grammar.proofs.Invariant.{put_fixed, put_frames, put_state, IsFixed, AreFrames, IsCall, IsWords, IsNow, IsState, IsStep, MayStep, may_if, both}
+use Rattle.jd_grammar.specs.Frames.{spawning, rows, Fixed, in_bracket, in_middle, in_group, in_generator, in_size, in_place, Frame, open_end, fixed, Words, operator, atoms, minus, generator_name, generator_in, element_type, type_end, size_begin, place_begin, Now, wanted, got, pending, State, want, have, await, demand, demand_of, ranges, ranges_in, negated}
+use Rattle.jd_grammar.specs.Machine.{close, want_end, spawn_step, wide_step, want_step, at_binary, at_question, at_arrow, at_keyword, at_brace, fixed_step, at_end, have_more, have_step, words_step, step_at, step}
+use Rattle.jd_grammar.proofs.Invariant.{put_frames, put_state, IsFixed, AreFrames, IsState, IsStep, MayStep, may_if, both}
 use Rattle.jd_grammar.proofs.Close.{le_of, weaken, demand_le, close_put, IsClosed, closed}
 use Rattle.jd_grammar.proofs.RowSplit.{put_with_cell, split, minus_of, tight_leaf}
 use Rattle.jd_grammar.proofs.BracketSteps.{Stand, committed, bracket_ok, want_end_ok, operator_ok}

@@ -1,13 +1,13 @@
 -- The steps that a tree of the grammar leads to.
-use Rattle.std.proofs.Common.{ℕ, ◌≡◌, ◌≤◌, ◌<◌, ◌+◌, Bool, true, false, ◌&&◌, IsTrue, List, [], ◌∷◌, Option, Some, None, nat_le, if◌then◌else◌, refl, sym, ap, subst, ◌∙◌, arith}
+use Rattle.std.proofs.Common.{ℕ, ◌≡◌, ◌≤◌, ◌<◌, Bool, true, false, ◌&&◌, IsTrue, List, [], ◌∷◌, Option, Some, None, nat_le, if◌then◌else◌, refl, sym, ap, ◌∙◌, arith}
 use Rattle.jd_grammar.specs.declared.token.Token.{Token}
 use Rattle.jd_grammar.specs.declared.token.Kind.{Kind}
-use Rattle.jd_grammar.specs.declared.token.Kind.TheVariants.{Number, Wide, Text, Name, True, False, Nothing, SpawnAt, FetchFrom, Plus, Minus, Star, Divide, Percent, And, Or, Xor, Not, Complement, Equal, Unequal, Less, LessEqual, Greater, GreaterEqual, AndAlso, OrElse, Question, Colon, Comma, Semicolon, Arrow, Assign, For, OpenParen, CloseParen, OpenBracket, CloseBracket}
+use Rattle.jd_grammar.specs.declared.token.Kind.TheVariants.{Number, Wide, Text, Name, True, False, Nothing, SpawnAt, FetchFrom, Plus, Minus, Star, And, Or, Xor, Not, Complement, AndAlso, OrElse, Colon, Comma, Semicolon, For, OpenParen, CloseParen, CloseBracket}
 use Rattle.jd_grammar.specs.Kinds.{is_leaf, is_least, is_name, is_number, is_unary, is_minus, is_argument, is_spawn, strength, left, stands}
-use Rattle.jd_grammar.specs.Grammar.{Syntax, leaf, sign, ending, bracket, comprehension, remote, Head, unary, binary, choice, lambda, spawn, keyword, Bracket, grouped, called, itemed, indexed, Items, none, more, Maybe, nothing, just, put, closes, item_level, is_separator, is_shape, touches, is_tight, asks, level, are_parameters, IsAt}
-use Rattle.jd_grammar.specs.Frames.{Hold, spawning, Fixed, in_bracket, in_middle, in_group, Frame, open_end, fixed, Words, operator, atoms, minus, State, want, have, await, demand, ranges, negated}
-use Rattle.jd_grammar.specs.Machine.{close, with_item, is_closer, item_step, row_end, close_step, bracket_step, empty_step, want_end, operator_step, spawn_step, wide_step, want_step, filled, takes, atom_step, atoms_step, minus_step, at_binary, at_question, at_arrow, at_keyword, at_end, have_more, have_step, words_step, step}
-use Rattle.jd_grammar.proofs.Close.{test_le, test_gt, strength_le}
+use Rattle.jd_grammar.specs.Grammar.{Syntax, leaf, sign, ending, bracket, Head, unary, binary, choice, lambda, spawn, keyword, Bracket, grouped, called, itemed, indexed, Items, none, nothing, just, closes, is_separator, is_shape, touches, is_tight, asks, level, are_parameters}
+use Rattle.jd_grammar.specs.Frames.{Hold, spawning, in_bracket, in_middle, in_group, Frame, open_end, fixed, operator, atoms, minus, State, want, have, await, demand, ranges, negated}
+use Rattle.jd_grammar.specs.Machine.{close, with_item, is_closer, item_step, row_end, close_step, bracket_step, want_end, wide_step, want_step, filled, takes, atoms_step, at_binary, at_question, at_arrow, at_keyword, at_end, have_more, have_step, step}
+use Rattle.jd_grammar.proofs.Close.{test_le, test_gt}
 
 -- what follows the machine's steps, as a run of it does
 pub record Follows : Type 1 where

@@ -1,11 +1,10 @@
 -- What the machine says of scripts: an answer is spelled so, what is spelled so is the answer, what was read may become
 -- a script, and what is refused may not.
-use Rattle.std.proofs.Common.{ℕ, ◌≡◌, ◌≤◌, ◌<◌, ◌+◌, Bool, true, false, IsTrue, List, [], ◌∷◌, ◌++◌, Option, Some, None, refl, sym, ap, subst, ◌∙◌, arith}
+use Rattle.std.proofs.Common.{◌≡◌, List, [], ◌∷◌, ◌++◌, Option, Some, None, refl, sym, ap, subst, ◌∙◌}
 use Rattle.jd_grammar.specs.declared.token.Token.{Token}
-use Rattle.jd_grammar.specs.Script.{Block, put_block}
+use Rattle.jd_grammar.specs.Script.{Block}
 use Rattle.jd_grammar.specs.Reader.{Config, start, step, and_then, run, finish}
 use Rattle.jd_grammar.specs.Promise.{Spells, IsPrefix}
-use Rattle.jd_grammar.proofs.Context.{IsConfig, put_config}
 use Rattle.jd_grammar.proofs.ScriptSound.{IsRun, MayRun, run_ok, HasScript, finish_ok, start_ok}
 use Rattle.jd_grammar.proofs.ScriptReach.{complete_script}
 use Rattle.jd_grammar.proofs.ScriptFinish.{script, script_end, script_ok, script_put}

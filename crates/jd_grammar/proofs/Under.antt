@@ -1,14 +1,13 @@
 -- One expression is under another where whatever stands round them nests the first no deeper than the second.
-use Rattle.std.proofs.Common.{ℕ, zero, suc, ◌≡◌, ◌≤◌, ◌<◌, ◌+◌, max, Bool, true, false, ◌&&◌, not, IsTrue, List, [], ◌∷◌, Option, Some, None, nat_le, nat_eq, if◌then◌else◌, refl, sym, ap, subst, ◌∙◌, arith}
+use Rattle.std.proofs.Common.{ℕ, zero, suc, ◌≡◌, ◌≤◌, ◌+◌, max, Bool, true, false, ◌&&◌, not, List, [], ◌∷◌, Option, Some, None, nat_le, nat_eq, if◌then◌else◌, refl, sym, ap, subst, ◌∙◌, arith}
 use Rattle.jd_grammar.specs.declared.token.Token.{Token}
-use Rattle.jd_grammar.specs.declared.token.Kind.{Kind}
-use Rattle.jd_grammar.specs.declared.token.Kind.TheVariants.{Number, Comma, CloseParen, CloseBracket}
+use Rattle.jd_grammar.specs.declared.token.Kind.TheVariants.{Comma, CloseParen, CloseBracket}
 use Rattle.jd_grammar.specs.Kinds.{is_minus}
-use Rattle.jd_grammar.specs.Grammar.{Channel, Syntax, leaf, sign, ending, bracket, matrix, comprehension, remote, Head, unary, binary, choice, lambda, spawn, keyword, Bracket, grouped, called, itemed, indexed, Cells, no_cells, cell, row, Items, none, more, Maybe, nothing, just, Generators, no_more, generator, closes, level, is_shape, is_row, is_full}
+use Rattle.jd_grammar.specs.Grammar.{Syntax, leaf, ending, bracket, matrix, Head, unary, binary, choice, lambda, spawn, keyword, Bracket, grouped, called, itemed, indexed, Cells, no_cells, cell, row, Items, none, more, Maybe, nothing, just, Generators, no_more, generator, level, is_row, is_full}
 use Rattle.jd_grammar.specs.Rows.{begins_tight, is_plain, is_chain, is_long, with_cell, joined, first_of, cells_of, count_cells, first_width, last_width, are_even, most_atoms}
 use Rattle.jd_grammar.specs.Frames.{Hold, spawning, rows, Fixed, in_bracket, in_middle, in_group, in_generator, in_size, in_place, Frame, open_end, fixed}
 use Rattle.jd_grammar.specs.Machine.{close, with_generator}
-use Rattle.jd_grammar.specs.Depth.{height, height_head, height_bracket, height_cells, height_items, height_maybe, height_generators}
+use Rattle.jd_grammar.specs.Depth.{height, height_cells, height_items, height_maybe, height_generators}
 use Rattle.jd_grammar.specs.Shortest.{token, zero_leaf, zero_token, fill, missing, filled_rows, held, shut_row, shut_bracket, shut, wrap}
 use Rattle.jd_grammar.proofs.RowFacts.{both, and_true, le_of, test_le, test_eq, count_with, count_joined, single_cells, single_even, single_width}
 

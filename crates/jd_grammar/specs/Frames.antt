@@ -1,7 +1,7 @@
 -- What has been begun while an expression is read: the frames that are open, the innermost first, and what was read last.
-use Rattle.std.specs.Prelude.{ℕ, ◌+◌, Bool, true, false, Option, List, [], ◌∷◌}
+use Rattle.std.specs.Prelude.{ℕ, Bool, true, false, Option, List, [], ◌∷◌}
 use Rattle.jd_grammar.specs.declared.token.Token.{Token}
-use Rattle.jd_grammar.specs.Grammar.{Channel, Syntax, leaf, sign, ending, bracket, Head, unary, Bracket, called, Cells, Items, Maybe, Generators, asks, is_negation, item_level}
+use Rattle.jd_grammar.specs.Grammar.{Channel, Syntax, Head, Bracket, Cells, Items, Generators, asks, is_negation, item_level}
 
 -- what wants an atom
 pub data Hold : Type 0 where

@@ -1,10 +1,10 @@
 -- Which expressions the grammar has.
-use Rattle.std.specs.Prelude.{ℕ, ◌≡◌, ◌≤◌, ◌+◌, Bool, true, false, ◌&&◌, not, IsTrue, List, [], ◌∷◌, ◌++◌, if◌then◌else◌}
+use Rattle.std.specs.Prelude.{ℕ, ◌≡◌, ◌≤◌, ◌+◌, Bool, true, false, ◌&&◌, not, IsTrue, if◌then◌else◌}
 use Rattle.jd_grammar.specs.declared.token.Token.{Token}
 use Rattle.jd_grammar.specs.declared.token.Word.TheVariants as word
 use Rattle.jd_grammar.specs.declared.token.Kind.{Kind}
 use Rattle.jd_grammar.specs.declared.token.Kind.TheVariants.{Name, Question, Colon, Comma, Semicolon, Arrow, Assign, For, In, OpenParen, CloseParen, OpenBracket, CloseBracket, OpenBrace, CloseBrace}
-use Rattle.jd_grammar.specs.Kinds.{is_leaf, is_number, is_name, is_least, is_unary, is_minus, is_argument, is_spawn, strength, left, stands, is_named, is_word, is_element_type}
+use Rattle.jd_grammar.specs.Kinds.{is_leaf, is_name, is_least, is_unary, is_minus, is_argument, is_spawn, strength, left, stands, is_named, is_word, is_element_type}
 pub use Rattle.jd_grammar.specs.Trees.{Channel, Syntax, leaf, sign, ending, bracket, matrix, comprehension, remote, Head, unary, binary, choice, lambda, spawn, keyword, Bracket, grouped, called, itemed, indexed, Cells, no_cells, cell, row, Items, none, more, Maybe, nothing, just, Generators, no_more, generator, put_channel, put, put_head, put_bracket, put_cells, put_items, put_maybe, put_generators}
 pub use Rattle.jd_grammar.specs.Rows.{is_tight, is_atom, is_spaced, is_row, are_many, is_full}
 

@@ -1,12 +1,11 @@
 -- What the tokens are good for.
 use Rattle.std.specs.Prelude.{ℕ, Bool, true, false, ◌&&◌, not, nat_eq, if◌then◌else◌}
-use Rattle.jd_grammar.specs.declared.token.Token.{Token}
 use Rattle.jd_grammar.specs.declared.token.Word.{Word}
 use Rattle.jd_grammar.specs.declared.token.Word.TheVariants as word
 use Rattle.jd_grammar.specs.declared.token.Name as a-name
 use Rattle.jd_grammar.specs.declared.token.Name.TheVariants as name
 use Rattle.jd_grammar.specs.declared.token.Kind.{Kind}
-use Rattle.jd_grammar.specs.declared.token.Kind.TheVariants.{Number, Wide, Text, Name, True, False, Nothing, SpawnAt, FetchFrom, Plus, Minus, Star, Divide, Percent, And, Or, Xor, Not, Complement, Equal, Unequal, Less, LessEqual, Greater, GreaterEqual, AndAlso, OrElse, Colon, Comma, Semicolon, OpenParen, CloseParen, OpenBracket, CloseBracket}
+use Rattle.jd_grammar.specs.declared.token.Kind.TheVariants.{Number, Wide, Text, Name, True, False, Nothing, SpawnAt, FetchFrom, Plus, Minus, Star, Divide, Percent, And, Or, Xor, Not, Complement, Equal, Unequal, Less, LessEqual, Greater, GreaterEqual, AndAlso, OrElse, Colon, Comma}
 
 -- ---- operands
 

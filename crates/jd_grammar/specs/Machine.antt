@@ -1,11 +1,11 @@
 -- Reading an expression, a token at a time.
-use Rattle.std.specs.Prelude.{ℕ, ◌+◌, Bool, true, false, ◌&&◌, not, List, [], ◌∷◌, Option, Some, None, nat_le, nat_eq, if◌then◌else◌}
+use Rattle.std.specs.Prelude.{ℕ, Bool, true, false, ◌&&◌, List, [], ◌∷◌, Option, Some, None, nat_le, if◌then◌else◌}
 use Rattle.jd_grammar.specs.declared.token.Token.{Token}
 use Rattle.jd_grammar.specs.declared.token.Word.TheVariants as word
 use Rattle.jd_grammar.specs.declared.token.Kind.{Kind}
 use Rattle.jd_grammar.specs.declared.token.Kind.TheVariants.{Number, Wide, Text, Name, True, False, Nothing, In, For, SpawnAt, FetchFrom, Plus, Minus, Star, And, Or, Xor, Not, Complement, Question, Colon, Comma, Arrow, Assign, OpenParen, CloseParen, OpenBracket, CloseBracket, OpenBrace, CloseBrace, Semicolon}
-use Rattle.jd_grammar.specs.Kinds.{is_leaf, is_name, is_least, is_minus, is_argument, strength, left, stands, is_word, is_element_type, is_number}
-use Rattle.jd_grammar.specs.Grammar.{Channel, Syntax, leaf, sign, ending, bracket, matrix, comprehension, remote, Head, unary, binary, choice, lambda, spawn, keyword, Bracket, grouped, called, itemed, indexed, Items, none, more, Maybe, nothing, just, Generators, no_more, generator, name_of, is_name_leaf, are_parameters, is_separator, is_shape, touches, is_tight, count, level}
+use Rattle.jd_grammar.specs.Kinds.{is_name, is_least, is_minus, is_argument, strength, left, stands, is_word, is_element_type}
+use Rattle.jd_grammar.specs.Grammar.{Channel, Syntax, leaf, sign, ending, bracket, matrix, comprehension, remote, unary, binary, choice, lambda, spawn, keyword, Bracket, grouped, called, itemed, indexed, Items, none, more, nothing, just, Generators, no_more, generator, are_parameters, is_separator, is_shape, touches, is_tight, count, level}
 use Rattle.jd_grammar.specs.Rows.{is_chain, is_full, first_of, cells_of, with_cell, are_begun, may_go_on}
 use Rattle.jd_grammar.specs.Frames.{Hold, spawning, rows, Fixed, in_bracket, in_middle, in_group, in_generator, in_size, in_place, Frame, open_end, fixed, Words, operator, atoms, minus, generator_name, generator_in, element_type, type_end, size_begin, place_begin, Now, wanted, got, pending, State, want, have, await, demand, ranges, negated}
 

@@ -1,14 +1,14 @@
 -- Reading a script, a token at a time.
-use Rattle.std.specs.Prelude.{ℕ, ◌≡◌, ◌+◌, Bool, true, false, ◌&&◌, not, List, [], ◌∷◌, Option, Some, None, if◌then◌else◌}
+use Rattle.std.specs.Prelude.{Bool, true, false, ◌&&◌, List, [], ◌∷◌, Option, Some, None, if◌then◌else◌}
 use Rattle.jd_grammar.specs.declared.token.Token.{Token}
 use Rattle.jd_grammar.specs.declared.token.Kind.{Kind}
-use Rattle.jd_grammar.specs.declared.token.Kind.TheVariants.{Name, Function, If, Elseif, Else, While, For, In, Try, Catch, Return, Break, Continue, End, Using, DistributedFor, Everywhere, Comma, Assign, PlusAssign, MinusAssign, StarAssign, OpenParen, CloseParen, Semicolon, LineEnd}
+use Rattle.jd_grammar.specs.declared.token.Kind.TheVariants.{Name, Function, If, Elseif, Else, While, For, Try, Catch, Return, Break, Continue, End, Using, DistributedFor, Everywhere, Comma, Assign, PlusAssign, MinusAssign, StarAssign, OpenParen, CloseParen, Semicolon, LineEnd}
 use Rattle.jd_grammar.specs.Kinds.{is_name}
-use Rattle.jd_grammar.specs.Grammar.{Syntax, leaf, name_of, is_name_leaf}
+use Rattle.jd_grammar.specs.Grammar.{Syntax, leaf}
 use Rattle.jd_grammar.specs.Frames.{Frame, Now, wanted, got, pending, State, want}
 use Rattle.jd_grammar.specs.Machine as expression
 use Rattle.jd_grammar.specs.Machine.{close}
-use Rattle.jd_grammar.specs.Script.{Parameters, no_parameters, first, next, Signature, Packages, using_first, using_next, Lead, bare, assigned, updated, defined, defined_everywhere, returned, Target, no_target, target, Header, while_head, if_head, elseif_head, for_head, distributed_head, Opening, headed, else_open, try_open, catch_open, catch_name, function_open, Stmt, ended, alone, packages, packages_everywhere, blocks, Prior, begun, Before, fresh, behind, Block, block, Lines, no_lines, line, Place, empty, stmt, Scope, outermost, within, Role, role_of, role_before, conditional, trying, may_end, is_separator, is_update, is_in, is_reducer, is_package, is_signature, is_fresh, is_alone}
+use Rattle.jd_grammar.specs.Script.{Parameters, no_parameters, first, next, Signature, Packages, using_first, using_next, Lead, bare, assigned, updated, defined, defined_everywhere, returned, Target, no_target, target, Header, while_head, if_head, elseif_head, for_head, distributed_head, Opening, headed, else_open, try_open, catch_open, catch_name, function_open, Stmt, ended, alone, packages, packages_everywhere, blocks, begun, Before, fresh, behind, Block, block, Lines, no_lines, line, Place, empty, stmt, Scope, outermost, within, Role, role_of, conditional, trying, may_end, is_separator, is_in, is_reducer, is_package, is_signature, is_fresh}
 
 -- ---- what is open
 

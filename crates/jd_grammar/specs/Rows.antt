@@ -3,7 +3,7 @@
 use Rattle.std.specs.Prelude.{ℕ, ◌+◌, Bool, true, false, ◌&&◌, Option, Some, None, nat_le, nat_eq, if◌then◌else◌}
 use Rattle.jd_grammar.specs.declared.token.Token.{Token}
 use Rattle.jd_grammar.specs.Kinds.{is_number, is_name, is_least, is_minus}
-use Rattle.jd_grammar.specs.Trees.{Syntax, leaf, sign, ending, bracket, matrix, comprehension, remote, Head, unary, binary, choice, lambda, spawn, keyword, grouped, called, Cells, no_cells, cell, row, none, just}
+use Rattle.jd_grammar.specs.Trees.{Syntax, leaf, sign, ending, bracket, unary, binary, keyword, grouped, called, Cells, no_cells, cell, row, none, just}
 
 -- ---- atoms
 

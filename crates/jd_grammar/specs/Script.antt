@@ -1,12 +1,12 @@
 -- Statements and blocks as plain trees that keep every token, the tokens that a script is written with, and which
 -- trees the grammar has.
-use Rattle.std.specs.Prelude.{ℕ, ◌≡◌, ◌≤◌, ◌+◌, Bool, true, false, ◌&&◌, not, IsTrue, List, [], ◌∷◌, ◌++◌, Option, Some, None, if◌then◌else◌}
+use Rattle.std.specs.Prelude.{◌≡◌, Bool, true, false, ◌&&◌, not, IsTrue, List, ◌∷◌, Option, Some, None, if◌then◌else◌}
 use Rattle.jd_grammar.specs.declared.token.Token.{Token}
 use Rattle.jd_grammar.specs.declared.token.Word.TheVariants as word
 use Rattle.jd_grammar.specs.declared.token.Kind.{Kind}
-use Rattle.jd_grammar.specs.declared.token.Kind.TheVariants.{Name, Function, If, Elseif, Else, While, For, In, Try, Catch, Return, Break, Continue, End, Using, DistributedFor, Everywhere, Comma, Assign, PlusAssign, MinusAssign, StarAssign, OpenParen, CloseParen, Semicolon, LineEnd}
+use Rattle.jd_grammar.specs.declared.token.Kind.TheVariants.{Function, If, Elseif, Else, While, For, In, Try, Catch, Return, Break, Continue, End, Using, DistributedFor, Everywhere, Comma, Assign, PlusAssign, MinusAssign, StarAssign, OpenParen, CloseParen, Semicolon, LineEnd}
 use Rattle.jd_grammar.specs.Kinds.{is_name, is_comma, is_argument, is_word}
-use Rattle.jd_grammar.specs.Grammar.{Syntax, leaf, bracket, called, Items, none, more, put, are_same, name_of, is_list_of_names, IsAt}
+use Rattle.jd_grammar.specs.Grammar.{Syntax, leaf, bracket, called, Items, none, more, put, are_same, is_list_of_names, IsAt}
 
 -- ---- the parts of a statement
 

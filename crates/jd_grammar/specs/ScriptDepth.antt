@@ -1,10 +1,10 @@
 -- How deep a script nests, and the least depth of a script that begins with what was read.
 use Rattle.std.specs.Prelude.{ℕ, ◌+◌, max, Bool, true, false, not, List, [], ◌∷◌, if◌then◌else◌}
 use Rattle.jd_grammar.specs.Depth.{height}
-use Rattle.jd_grammar.specs.Frames.{Frame, Now, wanted, got, pending, State}
+use Rattle.jd_grammar.specs.Frames.{Frame, Now, wanted, State}
 use Rattle.jd_grammar.specs.Shortest as expression
 use Rattle.jd_grammar.specs.Script.{Lead, bare, assigned, updated, defined, defined_everywhere, returned, Target, no_target, target, Header, distributed_head, Opening, headed, Stmt, ended, alone, packages, packages_everywhere, blocks, Prior, begun, Before, fresh, behind, Block, block, Lines, no_lines, line, Place, empty, stmt}
-use Rattle.jd_grammar.specs.Reader.{Outer, Bottom, in_lead, in_header, Owner, Awaited, for_name, for_in, distributed_open, distributed_reducer, distributed_close, distributed_for, distributed_name, distributed_in, function_name, signature_open, signature_first, signature_next, signature_name, signature_end, everywhere, everywhere_package, package_first, package_next, catch_words, catch_named, Mode, at_expression, at_words, complete, Config}
+use Rattle.jd_grammar.specs.Reader.{Outer, in_lead, in_header, Awaited, distributed_open, distributed_reducer, distributed_close, distributed_for, distributed_name, distributed_in, everywhere, everywhere_package, package_first, package_next, catch_words, catch_named, Mode, at_expression, at_words, complete, Config}
 
 -- ---- the depth of a script
 

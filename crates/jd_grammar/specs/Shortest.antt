@@ -1,12 +1,12 @@
 -- The shallowest expression that begins with what was read, and the tokens that it wants besides.
-use Rattle.std.specs.Prelude.{ℕ, zero, suc, ◌+◌, ◌-◌, Bool, true, false, ◌&&◌, List, [], ◌∷◌, Option, Some, None, nat_le, if◌then◌else◌}
+use Rattle.std.specs.Prelude.{ℕ, zero, suc, ◌-◌, true, false, ◌&&◌, List, [], ◌∷◌, None, nat_le, if◌then◌else◌}
 use Rattle.jd_grammar.specs.declared.token.Token.{Token}
 use Rattle.jd_grammar.specs.declared.token.Word.TheVariants as word
 use Rattle.jd_grammar.specs.declared.token.Name.TheVariants as name
 use Rattle.jd_grammar.specs.declared.token.Kind.{Kind}
 use Rattle.jd_grammar.specs.declared.token.Kind.TheVariants.{Number, Name, Colon, Comma, In, OpenParen, CloseParen, CloseBracket, CloseBrace}
 use Rattle.jd_grammar.specs.Kinds.{is_argument}
-use Rattle.jd_grammar.specs.Grammar.{Channel, Syntax, leaf, sign, ending, bracket, matrix, comprehension, remote, Head, unary, choice, spawn, Bracket, grouped, called, itemed, Cells, Items, none, more, just, closes, is_shape, is_full}
+use Rattle.jd_grammar.specs.Grammar.{Channel, Syntax, leaf, sign, ending, bracket, matrix, comprehension, remote, unary, choice, spawn, Bracket, grouped, called, itemed, Cells, Items, none, more, just, closes, is_shape, is_full}
 use Rattle.jd_grammar.specs.Rows.{first_of, cells_of, with_cell, first_width, last_width}
 use Rattle.jd_grammar.specs.Depth.{height}
 use Rattle.jd_grammar.specs.Frames.{Hold, spawning, rows, Fixed, in_bracket, in_middle, in_group, in_generator, in_size, in_place, Frame, open_end, fixed, Words, operator, atoms, minus, generator_name, generator_in, element_type, type_end, size_begin, place_begin, Now, wanted, got, pending, State}

@@ -1,5 +1,5 @@
 -- Expressions as plain trees that keep every token, and the tokens that a tree is written with.
-use Rattle.std.specs.Prelude.{List, [], ◌∷◌}
+use Rattle.std.specs.Prelude.{List, ◌∷◌}
 use Rattle.jd_grammar.specs.declared.token.Token.{Token}
 
 -- `RemoteChannel(() -> Channel{`: the tokens before the type of a channel's elements
