@@ -35,16 +35,18 @@ item_ok : (s : State) (b : Bracket) (o : Token) (es : Items) (t : Token) (fs : L
     → IsAt true false (item_level b) e → Stand s t (in_bracket b o es) fs e → MayStep t s (item_step b o es t fs e)
 item_ok s b o es t fs e w v u h = may_if t s (want (fixed (in_bracket b o (with_item es e t)) ∷ fs)) (is_separator b t.kind && touches e t) (λ k.
     let c = both (is_separator b t.kind) (touches e t) k in
-    record { state = record { frames = ((w.0, w.1, are_with_item b es e t w.2 u c.0 c.1), v); now = tt };
-      tokens = λ rest. ap (λ ts. put_frames fs (put_fixed (in_bracket b o none) ts)) (put_with_item es e t rest) ∙ h rest })
+    record {
+      state = record { frames = ((w.0, w.1, are_with_item b es e t w.2 u c.0 c.1), v); now = tt };
+      tokens = λ rest. ap (λ ts. put_frames fs (put_fixed (in_bracket b o none) ts)) (put_with_item es e t rest) ∙ h rest;
+    })
 
 -- what is no list of one element is a row
 not_shape : (b : Bracket) (es : Items) (e : Syntax) → is_shape b es (just e) ≡ false → (b ≡ itemed) × (es ≡ none) × (is_row e ≡ true)
 not_shape itemed none e h = (refl, refl, row_of (is_row e) h)
   where
-  row_of : (b : Bool) → not b ≡ false → b ≡ true
-  row_of true h = refl
-  row_of false h = cc
+    row_of : (b : Bool) → not b ≡ false → b ≡ true
+    row_of true h = refl
+    row_of false h = cc
 not_shape grouped es e h = cc
 not_shape (called f) es e h = cc
 not_shape itemed (more _ _ _) e h = cc
@@ -55,25 +57,29 @@ row_end_ok : (s : State) (o : Token) (t : Token) (fs : List Frame) (e : Syntax) 
 row_end_ok s o t fs e w v u r k h = may_if t s (have fs (matrix o (first_of e) (cells_of e) t)) (is_full (cells_of e)) (λ f.
     let c = row_chain e r in
     let p = split e true false 1 c.0 u in
-    record { state = record { frames = v; now = (w.1, p.first, p.atom refl, p.cells, c.1, f, k) };
-      tokens = λ rest. ap (λ ts. put_frames fs (o ∷ ts)) (sym (p.tokens (t ∷ rest))) ∙ h rest })
+    record {
+      state = record { frames = v; now = (w.1, p.first, p.atom refl, p.cells, c.1, f, k) };
+      tokens = λ rest. ap (λ ts. put_frames fs (o ∷ ts)) (sym (p.tokens (t ∷ rest))) ∙ h rest;
+    })
 
 close_ok : (s : State) (b : Bracket) (o : Token) (es : Items) (t : Token) (fs : List Frame) (e : Syntax) → IsFixed fs (in_bracket b o es) → AreFrames fs
     → IsAt true false (item_level b) e → Stand s t (in_bracket b o es) fs e → MayStep t s (close_step b o es t fs e)
 close_ok s b o es t fs e w v u h =
     elim (is_closer b t.kind && touches e t) as (λ x. (is_closer b t.kind && touches e t) ≡ x → MayStep t s (if x then (if is_shape b es (just e) then Some (have fs (bracket b o es (just e) t)) else row_end o t fs e) else None)) [
-      true ↦ λ k. (let c = both (is_closer b t.kind) (touches e t) k in
-        elim (is_shape b es (just e)) as (λ x. is_shape b es (just e) ≡ x → MayStep t s (if x then Some (have fs (bracket b o es (just e) t)) else row_end o t fs e)) [
-          true ↦ λ f. record { state = record { frames = v; now = (w.0, w.1, w.2, u, closer_kind b t.kind c.0, f, c.1) }; tokens = h }
-        | false ↦ λ f. (let n = not_shape b es e f in at_row b es n.0 n.1 n.2 w u (closer_kind b t.kind c.0) h) ] refl)
-    | false ↦ λ k. tt ] refl
+      | true ↦ λ k. (let c = both (is_closer b t.kind) (touches e t) k in
+          elim (is_shape b es (just e)) as (λ x. is_shape b es (just e) ≡ x → MayStep t s (if x then Some (have fs (bracket b o es (just e) t)) else row_end o t fs e)) [
+            | true ↦ λ f. record { state = record { frames = v; now = (w.0, w.1, w.2, u, closer_kind b t.kind c.0, f, c.1) }; tokens = h }
+            | false ↦ λ f. (let n = not_shape b es e f in at_row b es n.0 n.1 n.2 w u (closer_kind b t.kind c.0) h)
+          ] refl)
+      | false ↦ λ k. tt
+    ] refl
   where
-  at_row : (b : Bracket) (es : Items) → b ≡ itemed → es ≡ none → is_row e ≡ true → IsFixed fs (in_bracket b o es) → IsAt true false (item_level b) e → t.kind ≡ closes b → Stand s t (in_bracket b o es) fs e → MayStep t s (row_end o t fs e)
-  at_row itemed none p q r w u k h = row_end_ok s o t fs e w v u r k h
-  at_row grouped es p q r w u k h = cc
-  at_row (called f) es p q r w u k h = cc
-  at_row itemed (more _ _ _) p q r w u k h = cc
-  at_row (indexed f) es p q r w u k h = cc
+    at_row : (b : Bracket) (es : Items) → b ≡ itemed → es ≡ none → is_row e ≡ true → IsFixed fs (in_bracket b o es) → IsAt true false (item_level b) e → t.kind ≡ closes b → Stand s t (in_bracket b o es) fs e → MayStep t s (row_end o t fs e)
+    at_row itemed none p q r w u k h = row_end_ok s o t fs e w v u r k h
+    at_row grouped es p q r w u k h = cc
+    at_row (called f) es p q r w u k h = cc
+    at_row itemed (more _ _ _) p q r w u k h = cc
+    at_row (indexed f) es p q r w u k h = cc
 
 -- ---- a first element that turns out to be the first row of a matrix
 
@@ -92,13 +98,14 @@ second_ok : (s : State) (b : Bracket) (o : Token) (es : Items) (t : Token) (fs :
     → IsAt true false (item_level b) e → Stand s t (in_bracket b o es) fs e → MayStep t s (second_step b o es t fs e)
 second_ok s itemed o none t fs e k w v u h =
     may_if t s (await fs (atoms (rows o (first_of e) (with_cell (cells_of e) None (leaf t)) None))) ((t.spaced && is_chain e) && are_begun (with_cell (cells_of e) None (leaf t))) (λ g.
-      let b = both (t.spaced && is_chain e) (are_begun (with_cell (cells_of e) None (leaf t))) g in
-      let c = both t.spaced (is_chain e) b.0 in
-      let p = split e true false 1 c.1 u in
-      record {
-        state = record { frames = v; now = committed o e None (leaf t) fs w.1 p (ap (λ x. if x then true else false && is_least t.kind t.spaced) (leaf_kind t.kind k)) k c.0 b.1 };
-        tokens = λ rest. ap (λ ts. put_frames fs (o ∷ put (first_of e) ts)) (put_with_cell (cells_of e) None (leaf t) rest)
-            ∙ ap (λ ts. put_frames fs (o ∷ ts)) (sym (p.tokens (t ∷ rest))) ∙ h rest })
+    let b = both (t.spaced && is_chain e) (are_begun (with_cell (cells_of e) None (leaf t))) g in
+    let c = both t.spaced (is_chain e) b.0 in
+    let p = split e true false 1 c.1 u in
+    record {
+      state = record { frames = v; now = committed o e None (leaf t) fs w.1 p (ap (λ x. if x then true else false && is_least t.kind t.spaced) (leaf_kind t.kind k)) k c.0 b.1 };
+      tokens = λ rest. ap (λ ts. put_frames fs (o ∷ put (first_of e) ts)) (put_with_cell (cells_of e) None (leaf t) rest)
+          ∙ ap (λ ts. put_frames fs (o ∷ ts)) (sym (p.tokens (t ∷ rest))) ∙ h rest;
+    })
 second_ok s grouped o es t fs e k w v u h = tt
 second_ok s (called f) o es t fs e k w v u h = tt
 second_ok s itemed o (more _ _ _) t fs e k w v u h = tt
@@ -108,11 +115,12 @@ semicolon_ok : (s : State) (b : Bracket) (o : Token) (es : Items) (t : Token) (f
     → IsAt true false (item_level b) e → Stand s t (in_bracket b o es) fs e → MayStep t s (semicolon_step b o es t fs e)
 semicolon_ok s itemed o none t fs e k w v u h =
     may_if t s (await fs (atoms (rows o (first_of e) (cells_of e) (Some t)))) (is_chain e && may_go_on (cells_of e)) (λ g.
-      let c = both (is_chain e) (may_go_on (cells_of e)) g in
-      let p = split e true false 1 c.0 u in
-      record {
-        state = record { frames = v; now = (w.1, p.first, p.atom refl, p.cells, single_even (first_width 1 (cells_of e)) 1 (cells_of e) (single_cells e), go_begun (cells_of e) c.1, (k, c.1)) };
-        tokens = λ rest. ap (λ ts. put_frames fs (o ∷ ts)) (sym (p.tokens (t ∷ rest))) ∙ h rest })
+    let c = both (is_chain e) (may_go_on (cells_of e)) g in
+    let p = split e true false 1 c.0 u in
+    record {
+      state = record { frames = v; now = (w.1, p.first, p.atom refl, p.cells, single_even (first_width 1 (cells_of e)) 1 (cells_of e) (single_cells e), go_begun (cells_of e) c.1, (k, c.1)) };
+      tokens = λ rest. ap (λ ts. put_frames fs (o ∷ ts)) (sym (p.tokens (t ∷ rest))) ∙ h rest;
+    })
 semicolon_ok s grouped o es t fs e k w v u h = item_ok s grouped o es t fs e w v u h
 semicolon_ok s (called f) o es t fs e k w v u h = item_ok s (called f) o es t fs e w v u h
 semicolon_ok s itemed o (more x c es) t fs e k w v u h = item_ok s itemed o (more x c es) t fs e w v u h
@@ -129,14 +137,15 @@ for_ok s (indexed f) o es t fs e k w v u h = tt
 pub bracket_ok : (s : State) (b : Bracket) (o : Token) (es : Items) (t : Token) (fs : List Frame) (e : Syntax) → IsFixed fs (in_bracket b o es) → AreFrames fs
     → IsAt true false (item_level b) e → Stand s t (in_bracket b o es) fs e → MayStep t s (bracket_step b o es t.kind t fs e)
 bracket_ok s b o es t fs e w v u h = elim t.kind as (λ k. t.kind ≡ k → MayStep t s (bracket_step b o es k t fs e)) [
-    Comma ↦ λ k. item_ok s b o es t fs e w v u h
+  | Comma ↦ λ k. item_ok s b o es t fs e w v u h
   | Semicolon ↦ λ k. semicolon_ok s b o es t fs e k w v u h
   | Number n ↦ λ k. second_ok s b o es t fs e (ap (λ x. if is_number x then true else is_name x) k) w v u h
   | Name n ↦ λ k. second_ok s b o es t fs e (ap (λ x. if is_number x then true else is_name x) k) w v u h
   | CloseParen ↦ λ k. close_ok s b o es t fs e w v u h
   | CloseBracket ↦ λ k. close_ok s b o es t fs e w v u h
   | For ↦ λ k. for_ok s b o es t fs e k w v u h
-  | _ ↦ λ k. tt ] refl
+  | _ ↦ λ k. tt
+] refl
 
 empty_ok : (s : State) (b : Bracket) (o : Token) (es : Items) (t : Token) (fs : List Frame) → IsFixed fs (in_bracket b o es) → AreFrames fs
     → ((rest : List Token) → put_frames fs (put_fixed (in_bracket b o es) (t ∷ rest)) ≡ put_state s (t ∷ rest)) → MayStep t s (empty_step b o es t fs)
@@ -151,8 +160,9 @@ sign_ok : (f : Syntax) (o : Token) (es : Items) (q : Token) (t : Token) (fs : Li
 sign_ok f o es q t fs w v =
     let s = want (open_end (unary q) ∷ (fixed (in_bracket (called f) o es) ∷ fs)) in
     elim (is_argument q.kind) as (λ b. is_argument q.kind ≡ b → MayStep t s (if b then bracket_step (called f) o es t.kind t fs (sign q) else None)) [
-      true ↦ λ k. bracket_ok s (called f) o es t fs (sign q) w v (omega arith, k) (λ rest. refl)
-    | false ↦ λ k. tt ] refl
+      | true ↦ λ k. bracket_ok s (called f) o es t fs (sign q) w v (omega arith, k) (λ rest. refl)
+      | false ↦ λ k. tt
+    ] refl
 
 pub want_end_ok : (t : Token) (fs : List Frame) → IsState (want fs) → MayStep t (want fs) (want_end t.kind t fs)
 want_end_ok t (fixed (in_bracket b o es) ∷ fs) w = empty_ok (want (fixed (in_bracket b o es) ∷ fs)) b o es t fs w.frames.0 w.frames.1 (λ rest. refl)

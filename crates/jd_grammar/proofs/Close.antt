@@ -69,7 +69,7 @@ pub close_put : (p : ℕ) (fs : List Frame) (e : Syntax) (rest : List Token) →
 close_put p [] e rest = refl
 close_put p (open_end h ∷ fs) e rest =
     elim (nat_le p (level h)) as (λ b. let r = if b then close p fs (ending h e) else (open_end h ∷ fs, e) in put_frames r.0 (put r.1 rest) ≡ put_frames fs (put (ending h e) rest))
-      [ true ↦ close_put p fs (ending h e) rest | false ↦ refl ]
+    [ true ↦ close_put p fs (ending h e) rest | false ↦ refl ]
 close_put p (fixed f ∷ fs) e rest = refl
 
 -- what closing leaves
@@ -85,9 +85,10 @@ close_ok : (p m : ℕ) (fs : List Frame) (e : Syntax) → p ≤ m → IsAt (rang
 close_ok p m [] e pm w d fw = record { level = m; frames = fw; operand = w; fits = d; bound = pm; same = refl }
 close_ok p m (open_end h ∷ fs) e pm w d fw =
     elim (nat_le p (level h)) as (λ b. nat_le p (level h) ≡ b → IsClosed p (open_end h ∷ fs) (if b then close p fs (ending h e) else (open_end h ∷ fs, e))) [
-      true ↦ λ k. (let c = close_ok p (level h) fs (ending h e) (le_of p (level h) k) (omega arith, fw.0, weaken (ranges fs) (is_negation h) m (asks h) e d w) fw.1 fw.2 in
-        record { level = c.level; frames = c.frames; operand = c.operand; fits = c.fits; bound = c.bound; same = c.same })
-    | false ↦ λ k. record { level = m; frames = fw; operand = w; fits = d; bound = pm; same = refl } ] refl
+      | true ↦ λ k. (let c = close_ok p (level h) fs (ending h e) (le_of p (level h) k) (omega arith, fw.0, weaken (ranges fs) (is_negation h) m (asks h) e d w) fw.1 fw.2 in
+          record { level = c.level; frames = c.frames; operand = c.operand; fits = c.fits; bound = c.bound; same = c.same })
+      | false ↦ λ k. record { level = m; frames = fw; operand = w; fits = d; bound = pm; same = refl }
+    ] refl
 close_ok p m (fixed f ∷ fs) e pm w d fw = record { level = m; frames = fw; operand = w; fits = d; bound = pm; same = refl }
 
 pub closed : (p : ℕ) (fs : List Frame) (e : Syntax) → p ≤ 9 → IsState (have fs e) → IsClosed p fs (close p fs e)

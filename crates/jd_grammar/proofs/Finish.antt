@@ -44,14 +44,16 @@ held_put (rows o x cells q) a rest = rows_put o x (with_cell cells q a) rest ∙
 -- a first element that is a row, closed
 row_put : (o : Token) (e : Syntax) (rest : List Token) → is_chain e ≡ true → IsAt true false 1 e → put (shut_row o e) rest ≡ o ∷ put e (row_rest e rest)
 row_put o e rest h w = elim (is_full (cells_of e)) as (λ b. put (if b then matrix o (first_of e) (cells_of e) (token CloseBracket) else bracket itemed o (more e (token Comma) none) (just zero_leaf) (token CloseBracket)) rest
-      ≡ o ∷ put e (if b then token CloseBracket ∷ rest else token Comma ∷ token (Number 0) ∷ token CloseBracket ∷ rest)) [
-    true ↦ ap (λ ts. o ∷ ts) (sym ((split e true false 1 h w).tokens (token CloseBracket ∷ rest)))
-  | false ↦ refl ]
+    ≡ o ∷ put e (if b then token CloseBracket ∷ rest else token Comma ∷ token (Number 0) ∷ token CloseBracket ∷ rest)) [
+      | true ↦ ap (λ ts. o ∷ ts) (sym ((split e true false 1 h w).tokens (token CloseBracket ∷ rest)))
+      | false ↦ refl
+    ]
 
 bracket_put : (b : Bracket) (o : Token) (es : Items) (e : Syntax) (rest : List Token) → IsAt true false (item_level b) e → put (shut_bracket b o es e) rest ≡ put_bracket b (o ∷ put_items es (put e (bracket_rest b es e rest)))
 bracket_put itemed o none e rest w = elim (is_row e) as (λ x. is_row e ≡ x → put (if not x then bracket itemed o none (just e) (token CloseBracket) else shut_row o e) rest ≡ o ∷ put e (if not x then token CloseBracket ∷ rest else row_rest e rest)) [
-    true ↦ λ r. row_put o e rest (row_chain e r).0 w
-  | false ↦ λ r. refl ] refl
+  | true ↦ λ r. row_put o e rest (row_chain e r).0 w
+  | false ↦ λ r. refl
+] refl
 bracket_put grouped o es e rest w = refl
 bracket_put (called f) o es e rest w = refl
 bracket_put itemed o (more _ _ _) e rest w = refl
@@ -84,13 +86,15 @@ row_ok o e fs k u r =
     let c = row_chain e r in
     let p = split e true false 1 c.0 u in
     elim (is_full (cells_of e)) as (λ b. is_full (cells_of e) ≡ b → Stands fs (if b then matrix o (first_of e) (cells_of e) (token CloseBracket) else bracket itemed o (more e (token Comma) none) (just zero_leaf) (token CloseBracket))) [
-      true ↦ λ f. record { level = 10; fits = omega (arith, demand_le fs); operand = (k, p.first, p.atom refl, p.cells, c.1, f, refl) }
-    | false ↦ λ f. record { level = 10; fits = omega (arith, demand_le fs); operand = (tt, k, (u, refl, touches_of true false 1 e (token Comma) u (omega arith), tt), refl, refl, refl, refl) } ] refl
+      | true ↦ λ f. record { level = 10; fits = omega (arith, demand_le fs); operand = (k, p.first, p.atom refl, p.cells, c.1, f, refl) }
+      | false ↦ λ f. record { level = 10; fits = omega (arith, demand_le fs); operand = (tt, k, (u, refl, touches_of true false 1 e (token Comma) u (omega arith), tt), refl, refl, refl, refl) }
+    ] refl
 
 bracket_ok : (b : Bracket) (o : Token) (es : Items) (e : Syntax) (fs : List Frame) → IsFixed fs (in_bracket b o es) → IsAt true false (item_level b) e → Stands fs (shut_bracket b o es e)
 bracket_ok itemed o none e fs w u = elim (is_row e) as (λ x. is_row e ≡ x → Stands fs (if not x then bracket itemed o none (just e) (token CloseBracket) else shut_row o e)) [
-    true ↦ λ r. row_ok o e fs w.1 u r
-  | false ↦ λ r. record { level = 10; fits = omega (arith, demand_le fs); operand = (tt, w.1, tt, u, refl, ap not r, tight_touches e CloseBracket) } ] refl
+  | true ↦ λ r. row_ok o e fs w.1 u r
+  | false ↦ λ r. record { level = 10; fits = omega (arith, demand_le fs); operand = (tt, w.1, tt, u, refl, ap not r, tight_touches e CloseBracket) }
+] refl
 bracket_ok grouped o es e fs w u = record { level = 10; fits = omega (arith, demand_le fs); operand = (w.0, w.1, w.2, u, refl, refl, tight_touches e CloseParen) }
 bracket_ok (called f) o es e fs w u = record { level = 10; fits = omega (arith, demand_le fs); operand = (w.0, w.1, w.2, u, refl, refl, tight_touches e CloseParen) }
 bracket_ok itemed o (more x c es) e fs w u = record { level = 10; fits = omega (arith, demand_le fs); operand = (w.0, w.1, w.2, u, refl, refl, tight_touches e CloseBracket) }
@@ -136,9 +140,10 @@ zero_stands fs = record { level = 10; fits = omega (arith, demand_le fs); operan
 sign_ok : (s : State) (f : Syntax) (o : Token) (es : Items) (t : Token) (fs : List Frame) → AreFrames (fixed (in_bracket (called f) o es) ∷ fs) → is_argument t.kind ≡ true
     → ((rest : List Token) → put_frames fs (put_fixed (in_bracket (called f) o es) (t ∷ rest)) ≡ put_state s rest) → IsReady s (sign_ready f o es t fs)
 sign_ok s f o es t fs w k h = record {
-    frames = w.1;
-    stands = record { level = 10; fits = omega (arith, demand_le fs); operand = (w.0.0, w.0.1, w.0.2, (omega arith, k), refl, refl, refl) };
-    tokens = λ rest. h (token CloseParen ∷ rest) }
+  frames = w.1;
+  stands = record { level = 10; fits = omega (arith, demand_le fs); operand = (w.0.0, w.0.1, w.0.2, (omega arith, k), refl, refl, refl) };
+  tokens = λ rest. h (token CloseParen ∷ rest);
+}
 
 zero_ok : (fs : List Frame) → AreFrames fs → IsReady (want fs) (zero_ready fs)
 zero_ok fs w = record { frames = w; stands = zero_stands fs; tokens = λ rest. refl }
@@ -148,38 +153,46 @@ want_ok (open_end (unary s) ∷ (fixed (in_bracket (called f) o es) ∷ fs)) w =
     let gs = open_end (unary s) ∷ (fixed (in_bracket (called f) o es) ∷ fs) in
     let c = is_argument s.kind && nat_le (depth_of (sign_ready f o es s fs)) (depth_of (zero_ready (open_end (unary s) ∷ (fixed (in_bracket (called f) o es) ∷ fs)))) in
     elim c as (λ b. c ≡ b → IsReady (want gs) (if b then sign_ready f o es s fs else zero_ready gs)) [
-      true ↦ λ k. sign_ok (want gs) f o es s fs w.2 (both (is_argument s.kind) (nat_le (depth_of (sign_ready f o es s fs)) (depth_of (zero_ready (open_end (unary s) ∷ (fixed (in_bracket (called f) o es) ∷ fs))))) k).0 (λ rest. refl)
-    | false ↦ λ k. zero_ok gs w ] refl
+      | true ↦ λ k. sign_ok (want gs) f o es s fs w.2 (both (is_argument s.kind) (nat_le (depth_of (sign_ready f o es s fs)) (depth_of (zero_ready (open_end (unary s) ∷ (fixed (in_bracket (called f) o es) ∷ fs))))) k).0 (λ rest. refl)
+      | false ↦ λ k. zero_ok gs w
+    ] refl
 want_ok fs w = zero_ok fs w
 
 atoms_ok : (hold : Hold) (fs : List Frame) → AreFrames fs → IsHold fs hold → IsReady (await fs (atoms hold)) (atoms_ready hold fs)
 atoms_ok (spawning s) fs w v = record { frames = w; stands = held_ok (spawning s) (token (Number 0)) zero_leaf fs v refl refl refl refl; tokens = λ rest. refl }
 atoms_ok (rows o x cells None) fs w v = record {
-    frames = w; stands = record { level = 10; fits = omega (arith, demand_le fs); operand = rows_stand o x cells fs v };
-    tokens = λ rest. ap (put_frames fs) (rows_put o x cells rest) }
+  frames = w;
+  stands = record { level = 10; fits = omega (arith, demand_le fs); operand = rows_stand o x cells fs v };
+  tokens = λ rest. ap (put_frames fs) (rows_put o x cells rest);
+}
 atoms_ok (rows o x cells (Some t)) fs w v = record {
-    frames = w; stands = held_ok (rows o x cells (Some t)) (token (Number 0)) zero_leaf fs v (go_on_begun cells t zero_leaf v.6.1) refl refl refl;
-    tokens = λ rest. ap (put_frames fs) (held_put (rows o x cells (Some t)) zero_leaf rest) }
+  frames = w;
+  stands = held_ok (rows o x cells (Some t)) (token (Number 0)) zero_leaf fs v (go_on_begun cells t zero_leaf v.6.1) refl refl refl;
+  tokens = λ rest. ap (put_frames fs) (held_put (rows o x cells (Some t)) zero_leaf rest);
+}
 
 words_ok : (x : Words) (fs : List Frame) → AreFrames fs → IsWords fs x → IsReady (await fs x) (words_ready x fs)
 words_ok (operator s) fs w v = operator_ok s fs w v.0 v.1
   where
-  operator_ok : (s : Token) (fs : List Frame) → AreFrames fs → is_argument s.kind ≡ true → IsCall fs → IsReady (await fs (operator s)) (words_ready (operator s) fs)
-  operator_ok s (fixed (in_bracket (called f) o es) ∷ fs) w k c = sign_ok (await (fixed (in_bracket (called f) o es) ∷ fs) (operator s)) f o es s fs w k (λ rest. refl)
-  operator_ok s _ w k c = absurd c
+    operator_ok : (s : Token) (fs : List Frame) → AreFrames fs → is_argument s.kind ≡ true → IsCall fs → IsReady (await fs (operator s)) (words_ready (operator s) fs)
+    operator_ok s (fixed (in_bracket (called f) o es) ∷ fs) w k c = sign_ok (await (fixed (in_bracket (called f) o es) ∷ fs) (operator s)) f o es s fs w k (λ rest. refl)
+    operator_ok s _ w k c = absurd c
 words_ok (atoms hold) fs w v = atoms_ok hold fs w v
 words_ok (minus hold m) fs w v = record {
-    frames = w;
-    stands = held_ok hold m (ending (unary m) zero_leaf) fs v.0 v.2 (omega arith, ap is_unary v.1, refl) (ap (λ k. is_minus k && true) v.1) refl;
-    tokens = λ rest. ap (put_frames fs) (held_put hold (ending (unary m) zero_leaf) rest) }
+  frames = w;
+  stands = held_ok hold m (ending (unary m) zero_leaf) fs v.0 v.2 (omega arith, ap is_unary v.1, refl) (ap (λ k. is_minus k && true) v.1) refl;
+  tokens = λ rest. ap (put_frames fs) (held_put hold (ending (unary m) zero_leaf) rest);
+}
 words_ok (generator_name o x gens t) fs w v = record {
-    frames = w;
-    stands = record { level = 10; fits = omega (arith, demand_le fs); operand = gathered o x gens t a_name (token In) zero_leaf fs (v, refl, refl) refl };
-    tokens = λ rest. ap (λ ts. put_frames fs (o ∷ put x ts)) (put_with_generator gens t a_name (token In) zero_leaf (token CloseBracket ∷ rest)) }
+  frames = w;
+  stands = record { level = 10; fits = omega (arith, demand_le fs); operand = gathered o x gens t a_name (token In) zero_leaf fs (v, refl, refl) refl };
+  tokens = λ rest. ap (λ ts. put_frames fs (o ∷ put x ts)) (put_with_generator gens t a_name (token In) zero_leaf (token CloseBracket ∷ rest));
+}
 words_ok (generator_in o x gens t n) fs w v = record {
-    frames = w;
-    stands = record { level = 10; fits = omega (arith, demand_le fs); operand = gathered o x gens t n (token In) zero_leaf fs (v.0, v.1, refl) refl };
-    tokens = λ rest. ap (λ ts. put_frames fs (o ∷ put x ts)) (put_with_generator gens t n (token In) zero_leaf (token CloseBracket ∷ rest)) }
+  frames = w;
+  stands = record { level = 10; fits = omega (arith, demand_le fs); operand = gathered o x gens t n (token In) zero_leaf fs (v.0, v.1, refl) refl };
+  tokens = λ rest. ap (λ ts. put_frames fs (o ∷ put x ts)) (put_with_generator gens t n (token In) zero_leaf (token CloseBracket ∷ rest));
+}
 words_ok (element_type c) fs w v = record { frames = w; stands = record { level = 10; fits = omega (arith, demand_le fs); operand = (v, refl, refl, refl, refl, refl, refl, refl, refl) }; tokens = λ rest. refl }
 words_ok (type_end c type) fs w v = record { frames = w; stands = record { level = 10; fits = omega (arith, demand_le fs); operand = (v.0, v.1, refl, refl, refl, refl, refl, refl, refl) }; tokens = λ rest. refl }
 words_ok (size_begin c type z) fs w v = record { frames = w; stands = record { level = 10; fits = omega (arith, demand_le fs); operand = (v.0.0, v.0.1, v.1, refl, refl, refl, refl, refl, refl) }; tokens = λ rest. refl }

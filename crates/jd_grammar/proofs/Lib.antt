@@ -21,3 +21,4 @@ pub mod Begun
 pub mod ScriptNesting
 pub mod Limit
 pub mod Refuse
+pub mod Promises

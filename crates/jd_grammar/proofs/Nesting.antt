@@ -49,8 +49,14 @@ shut_plain (indexed f) o es e = refl
 
 -- under a tuple, a call of more arguments, or another construct in brackets that is no row
 into : (b : Bracket) (o : Token) (es : Items) (e d : Syntax) → 1 + max (height_bracket b) (max (height_items es) (height e)) ≤ height d → is_chain d ≡ false → (begins_tight d ≡ true → begins_tight (shut_bracket b o es e) ≡ true) → Under (shut_bracket b o es e) d
-into b o es e d h c t = record { tall = omega (arith, shut_le b o es e); plain = λ k. shut_plain b o es e;
-    chain = λ k. let z = sym c ∙ k in cc; row = λ k. let z = sym c ∙ k in cc; few = λ k. let z = sym c ∙ k in cc; tight = t }
+into b o es e d h c t = record {
+  tall = omega (arith, shut_le b o es e);
+  plain = λ k. shut_plain b o es e;
+  chain = λ k. let z = sym c ∙ k in cc;
+  row = λ k. let z = sym c ∙ k in cc;
+  few = λ k. let z = sym c ∙ k in cc;
+  tight = t;
+}
 
 height_with_item : (es : Items) (e : Syntax) (t : Token) → height_items (with_item es e t) ≡ max (height_items es) (height e)
 height_with_item none e t = omega arith
@@ -100,7 +106,7 @@ commit_needs : (n : ℕ) (o : Token) (e a : Syntax) (fs : List Frame) → n ≤ 
 commit_needs n o e a fs h c b =
     let f = single_full e (omega (arith, begun_few (with_cell (cells_of e) None a) b, count_with (cells_of e) None a)) in
     let g = grows fs (shut_bracket itemed o none e) (filled_rows o (first_of e) (with_cell (cells_of e) None a))
-        (row_matrix_under o e (filled_rows o (first_of e) (with_cell (cells_of e) None a)) c f (omega (arith, height_rows o (first_of e) (with_cell (cells_of e) None a), height_with_cell (cells_of e) None a)) refl refl refl) in
+    (row_matrix_under o e (filled_rows o (first_of e) (with_cell (cells_of e) None a)) c f (omega (arith, height_rows o (first_of e) (with_cell (cells_of e) None a), height_with_cell (cells_of e) None a)) refl refl refl) in
     omega arith
 
 second_needs : (n : ℕ) (b : Bracket) (o : Token) (es : Items) (t : Token) (fs : List Frame) (e : Syntax) → n ≤ height (wrap fs (shut_bracket b o es e)) → NoLess n (second_step b o es t fs e)
@@ -120,8 +126,8 @@ semicolon_needs n itemed o none t fs e h = may_if n (await fs (atoms (rows o (fi
     let c = both (is_chain e) (may_go_on (cells_of e)) k in
     let d = held (rows o (first_of e) (cells_of e) (Some t)) zero_leaf in
     let g = grows fs (shut_bracket itemed o none e) (held (rows o (first_of e) (cells_of e) (Some t)) zero_leaf)
-        (row_matrix_under o e (held (rows o (first_of e) (cells_of e) (Some t)) zero_leaf) c.0 (single_full e (goes_few (cells_of e) c.1))
-          (omega (arith, height_rows o (first_of e) (with_cell (cells_of e) (Some t) zero_leaf), height_with_cell (cells_of e) (Some t) zero_leaf)) refl refl refl) in
+    (row_matrix_under o e (held (rows o (first_of e) (cells_of e) (Some t)) zero_leaf) c.0 (single_full e (goes_few (cells_of e) c.1))
+    (omega (arith, height_rows o (first_of e) (with_cell (cells_of e) (Some t) zero_leaf), height_with_cell (cells_of e) (Some t) zero_leaf)) refl refl refl) in
     omega arith)
 semicolon_needs n grouped o es t fs e h = item_needs n grouped o es t fs e h
 semicolon_needs n (called f) o es t fs e h = item_needs n (called f) o es t fs e h
@@ -131,7 +137,7 @@ semicolon_needs n (indexed f) o es t fs e h = item_needs n (indexed f) o es t fs
 row_end_needs : (n : ℕ) (o t : Token) (fs : List Frame) (e : Syntax) → is_row e ≡ true → n ≤ height (wrap fs (shut_bracket itemed o none e)) → NoLess n (row_end o t fs e)
 row_end_needs n o t fs e r h = may_if n (have fs (matrix o (first_of e) (cells_of e) t)) (is_full (cells_of e)) (λ f.
     let g = grows fs (shut_bracket itemed o none e) (matrix o (first_of e) (cells_of e) t)
-        (row_matrix_under o e (matrix o (first_of e) (cells_of e) t) (both (is_chain e) (is_long e) r).0 f (omega arith) refl refl refl) in omega arith)
+    (row_matrix_under o e (matrix o (first_of e) (cells_of e) t) (both (is_chain e) (is_long e) r).0 f (omega arith) refl refl refl) in omega arith)
 
 row_of : (b : Bool) → not b ≡ false → b ≡ true
 row_of true h = refl
@@ -140,23 +146,25 @@ row_of false h = cc
 closer_needs : (n : ℕ) (b : Bracket) (o : Token) (es : Items) (t : Token) (fs : List Frame) (e : Syntax) → n ≤ height (wrap fs (shut_bracket b o es e)) → NoLess n (close_step b o es t fs e)
 closer_needs n b o es t fs e h =
     elim (is_closer b t.kind && touches e t) as (λ x. NoLess n (if x then (if is_shape b es (just e) then Some (have fs (bracket b o es (just e) t)) else row_end o t fs e) else None)) [
-      true ↦ elim (is_shape b es (just e)) as (λ x. is_shape b es (just e) ≡ x → NoLess n (if x then Some (have fs (bracket b o es (just e) t)) else row_end o t fs e)) [
-          true ↦ λ s. (let g = grows fs (shut_bracket b o es e) (bracket b o es (just e) t) (same_bracket b o es e t s) in omega arith)
-        | false ↦ λ s. at_row b es s h ] refl
-    | false ↦ tt ]
+      | true ↦ elim (is_shape b es (just e)) as (λ x. is_shape b es (just e) ≡ x → NoLess n (if x then Some (have fs (bracket b o es (just e) t)) else row_end o t fs e)) [
+        | true ↦ λ s. (let g = grows fs (shut_bracket b o es e) (bracket b o es (just e) t) (same_bracket b o es e t s) in omega arith)
+        | false ↦ λ s. at_row b es s h
+      ] refl
+      | false ↦ tt
+    ]
   where
-  at_row : (b : Bracket) (es : Items) → is_shape b es (just e) ≡ false → n ≤ height (wrap fs (shut_bracket b o es e)) → NoLess n (row_end o t fs e)
-  at_row itemed none s h = row_end_needs n o t fs e (row_of (is_row e) s) h
-  at_row grouped es s h = cc
-  at_row (called f) es s h = cc
-  at_row itemed (more _ _ _) s h = cc
-  at_row (indexed f) es s h = cc
+    at_row : (b : Bracket) (es : Items) → is_shape b es (just e) ≡ false → n ≤ height (wrap fs (shut_bracket b o es e)) → NoLess n (row_end o t fs e)
+    at_row itemed none s h = row_end_needs n o t fs e (row_of (is_row e) s) h
+    at_row grouped es s h = cc
+    at_row (called f) es s h = cc
+    at_row itemed (more _ _ _) s h = cc
+    at_row (indexed f) es s h = cc
 
 for_needs : (n : ℕ) (b : Bracket) (o : Token) (es : Items) (t : Token) (fs : List Frame) (e : Syntax) → n ≤ height (wrap fs (shut_bracket b o es e)) → NoLess n (for_step b o es t fs e)
 for_needs n itemed o none t fs e h =
     let d = comprehension o e (with_generator no_more t a_name (token In) zero_leaf) (token CloseBracket) in
     let g = grows fs (shut_bracket itemed o none e) (comprehension o e (with_generator no_more t a_name (token In) zero_leaf) (token CloseBracket))
-        (into itemed o none e (comprehension o e (with_generator no_more t a_name (token In) zero_leaf) (token CloseBracket)) (omega arith) refl (λ h. cc)) in omega arith
+    (into itemed o none e (comprehension o e (with_generator no_more t a_name (token In) zero_leaf) (token CloseBracket)) (omega arith) refl (λ h. cc)) in omega arith
 for_needs n grouped o es t fs e h = tt
 for_needs n (called f) o es t fs e h = tt
 for_needs n itemed o (more _ _ _) t fs e h = tt
@@ -164,10 +172,15 @@ for_needs n (indexed f) o es t fs e h = tt
 
 bracket_needs : (n : ℕ) (b : Bracket) (o : Token) (es : Items) (k : Kind) (t : Token) (fs : List Frame) (e : Syntax) → n ≤ height (wrap fs (shut_bracket b o es e)) → NoLess n (bracket_step b o es k t fs e)
 bracket_needs n b o es k t fs e h = elim k as (λ k. NoLess n (bracket_step b o es k t fs e)) [
-    Comma ↦ item_needs n b o es t fs e h | Semicolon ↦ semicolon_needs n b o es t fs e h
-  | Number v ↦ second_needs n b o es t fs e h | Name v ↦ second_needs n b o es t fs e h
-  | CloseParen ↦ closer_needs n b o es t fs e h | CloseBracket ↦ closer_needs n b o es t fs e h
-  | For ↦ for_needs n b o es t fs e h | _ ↦ tt ]
+  | Comma ↦ item_needs n b o es t fs e h
+  | Semicolon ↦ semicolon_needs n b o es t fs e h
+  | Number v ↦ second_needs n b o es t fs e h
+  | Name v ↦ second_needs n b o es t fs e h
+  | CloseParen ↦ closer_needs n b o es t fs e h
+  | CloseBracket ↦ closer_needs n b o es t fs e h
+  | For ↦ for_needs n b o es t fs e h
+  | _ ↦ tt
+]
 
 -- nothing where an item could stand
 empty_under : (b : Bracket) (o : Token) (es : Items) (t : Token) → Under (shut_bracket b o es zero_leaf) (bracket b o es nothing t)
@@ -186,8 +199,9 @@ wanted_le (open_end (unary s) ∷ (fixed (in_bracket (called f) o es) ∷ fs)) =
     let gs = open_end (unary s) ∷ (fixed (in_bracket (called f) o es) ∷ fs) in
     let c = is_argument s.kind && nat_le (depth_of (sign_ready f o es s fs)) (depth_of (zero_ready (open_end (unary s) ∷ (fixed (in_bracket (called f) o es) ∷ fs)))) in
     elim c as (λ b. c ≡ b → depth_of (if b then sign_ready f o es s fs else zero_ready gs) ≤ height (wrap gs zero_leaf)) [
-      true ↦ λ k. le_of (depth_of (sign_ready f o es s fs)) (depth_of (zero_ready (open_end (unary s) ∷ (fixed (in_bracket (called f) o es) ∷ fs)))) (both (is_argument s.kind) (nat_le (depth_of (sign_ready f o es s fs)) (depth_of (zero_ready (open_end (unary s) ∷ (fixed (in_bracket (called f) o es) ∷ fs))))) k).1
-    | false ↦ λ k. omega arith ] refl
+      | true ↦ λ k. le_of (depth_of (sign_ready f o es s fs)) (depth_of (zero_ready (open_end (unary s) ∷ (fixed (in_bracket (called f) o es) ∷ fs)))) (both (is_argument s.kind) (nat_le (depth_of (sign_ready f o es s fs)) (depth_of (zero_ready (open_end (unary s) ∷ (fixed (in_bracket (called f) o es) ∷ fs))))) k).1
+      | false ↦ λ k. omega arith
+    ] refl
 wanted_le _ = omega arith
 
 -- an operand that stands there
@@ -199,8 +213,9 @@ below_unary t (fixed (in_bracket (called f) o es) ∷ fs) =
     let gs = open_end (unary t) ∷ (fixed (in_bracket (called f) o es) ∷ fs) in
     let c = is_argument t.kind && nat_le (depth_of (sign_ready f o es t fs)) (depth_of (zero_ready (open_end (unary t) ∷ (fixed (in_bracket (called f) o es) ∷ fs)))) in
     elim c as (λ b. height (wrap (fixed (in_bracket (called f) o es) ∷ fs) zero_leaf) ≤ depth_of (if b then sign_ready f o es t fs else zero_ready gs)) [
-      true ↦ grows (fixed (in_bracket (called f) o es) ∷ fs) zero_leaf (sign t) (zero_under (sign t))
-    | false ↦ grows (fixed (in_bracket (called f) o es) ∷ fs) zero_leaf (ending (unary t) zero_leaf) (zero_under (ending (unary t) zero_leaf)) ]
+      | true ↦ grows (fixed (in_bracket (called f) o es) ∷ fs) zero_leaf (sign t) (zero_under (sign t))
+      | false ↦ grows (fixed (in_bracket (called f) o es) ∷ fs) zero_leaf (ending (unary t) zero_leaf) (zero_under (ending (unary t) zero_leaf))
+    ]
 below_unary t fs = grows fs zero_leaf (ending (unary t) zero_leaf) (zero_under (ending (unary t) zero_leaf))
 
 unary_needs : (t : Token) (fs : List Frame) → needs (want fs) ≤ needs (want (open_end (unary t) ∷ fs))
@@ -216,23 +231,23 @@ spawn_needs t fs = may_if (needs (want fs)) (await fs (atoms (spawning t))) (nat
 wide_needs : (t : Token) (fs : List Frame) → NoLess (needs (want fs)) (wide_step t fs)
 wide_needs t (open_end (binary l m) ∷ (fixed (in_bracket itemed o none) ∷ fs)) =
     may_if (height (wrap fs (shut_bracket itemed o none (ending (binary l m) zero_leaf)))) (await fs (atoms (rows o (first_of l) (with_cell (cells_of l) None (ending (unary m) (leaf t))) None)))
-      (((is_minus m.kind && m.spaced) && (is_least t.kind t.spaced && is_chain l)) && are_begun (with_cell (cells_of l) None (ending (unary m) (leaf t)))) (λ h.
-        let a = both ((is_minus m.kind && m.spaced) && (is_least t.kind t.spaced && is_chain l)) (are_begun (with_cell (cells_of l) None (ending (unary m) (leaf t)))) h in
-        let b = both (is_minus m.kind && m.spaced) (is_least t.kind t.spaced && is_chain l) a.0 in
-        let c = both (is_least t.kind t.spaced) (is_chain l) b.1 in
-        difference_needs m l o (leaf t) fs b.0 c.1 a.1)
+    (((is_minus m.kind && m.spaced) && (is_least t.kind t.spaced && is_chain l)) && are_begun (with_cell (cells_of l) None (ending (unary m) (leaf t)))) (λ h.
+    let a = both ((is_minus m.kind && m.spaced) && (is_least t.kind t.spaced && is_chain l)) (are_begun (with_cell (cells_of l) None (ending (unary m) (leaf t)))) h in
+    let b = both (is_minus m.kind && m.spaced) (is_least t.kind t.spaced && is_chain l) a.0 in
+    let c = both (is_least t.kind t.spaced) (is_chain l) b.1 in
+    difference_needs m l o (leaf t) fs b.0 c.1 a.1)
   where
-  difference_needs : (m : Token) (l : Syntax) (o : Token) (x : Syntax) (fs : List Frame) → (is_minus m.kind && m.spaced) ≡ true → is_chain l ≡ true → are_begun (with_cell (cells_of l) None (ending (unary m) x)) ≡ true
-      → height (wrap fs (shut_bracket itemed o none (ending (binary l m) zero_leaf))) ≤ needs (await fs (atoms (rows o (first_of l) (with_cell (cells_of l) None (ending (unary m) x)) None)))
-  difference_needs m l o x fs z c b =
-      let e = ending (binary l m) zero_leaf in
-      let d = filled_rows o (first_of l) (with_cell (cells_of l) None (ending (unary m) x)) in
-      let q : is_chain (ending (binary l m) zero_leaf) ≡ true = and_true (is_minus m.kind && m.spaced) ((true && true) && is_chain l) z c in
-      let k = binary_row l m zero_leaf in
-      let f = single_full (ending (binary l m) zero_leaf) (omega (arith, begun_few (with_cell (cells_of l) None (ending (unary m) x)) b, count_with (cells_of l) None (ending (unary m) x), binary_count l m zero_leaf)) in
-      grows fs (shut_bracket itemed o none (ending (binary l m) zero_leaf)) (filled_rows o (first_of l) (with_cell (cells_of l) None (ending (unary m) x)))
+    difference_needs : (m : Token) (l : Syntax) (o : Token) (x : Syntax) (fs : List Frame) → (is_minus m.kind && m.spaced) ≡ true → is_chain l ≡ true → are_begun (with_cell (cells_of l) None (ending (unary m) x)) ≡ true
+        → height (wrap fs (shut_bracket itemed o none (ending (binary l m) zero_leaf))) ≤ needs (await fs (atoms (rows o (first_of l) (with_cell (cells_of l) None (ending (unary m) x)) None)))
+    difference_needs m l o x fs z c b =
+        let e = ending (binary l m) zero_leaf in
+        let d = filled_rows o (first_of l) (with_cell (cells_of l) None (ending (unary m) x)) in
+        let q : is_chain (ending (binary l m) zero_leaf) ≡ true = and_true (is_minus m.kind && m.spaced) ((true && true) && is_chain l) z c in
+        let k = binary_row l m zero_leaf in
+        let f = single_full (ending (binary l m) zero_leaf) (omega (arith, begun_few (with_cell (cells_of l) None (ending (unary m) x)) b, count_with (cells_of l) None (ending (unary m) x), binary_count l m zero_leaf)) in
+        grows fs (shut_bracket itemed o none (ending (binary l m) zero_leaf)) (filled_rows o (first_of l) (with_cell (cells_of l) None (ending (unary m) x)))
         (row_matrix_under o (ending (binary l m) zero_leaf) (filled_rows o (first_of l) (with_cell (cells_of l) None (ending (unary m) x))) q f
-          (omega (arith, k, height_rows o (first_of l) (with_cell (cells_of l) None (ending (unary m) x)), height_with_cell (cells_of l) None (ending (unary m) x))) refl refl refl)
+        (omega (arith, k, height_rows o (first_of l) (with_cell (cells_of l) None (ending (unary m) x)), height_with_cell (cells_of l) None (ending (unary m) x))) refl refl refl)
 wide_needs t fs = may_if (needs (want fs)) (have fs (leaf t)) (negated fs && is_least t.kind t.spaced) (λ h. operand_needs fs (leaf t))
 
 end_needs : (k : Kind) (t : Token) (fs : List Frame) → NoLess (needs (want fs)) (want_end k t fs)
@@ -240,30 +255,47 @@ end_needs k t (fixed (in_bracket b o es) ∷ fs) = may_if (needs (want (fixed (i
     (λ h. grows fs (shut_bracket b o es zero_leaf) (bracket b o es nothing t) (empty_under b o es t))
 end_needs k t (open_end (unary s) ∷ (fixed (in_bracket (called f) o es) ∷ fs)) =
     elim (is_argument s.kind) as (λ b. is_argument s.kind ≡ b → NoLess (needs (want gs)) (if b then bracket_step (called f) o es k t fs (sign s) else None)) [
-      true ↦ λ a. bracket_needs (needs (want gs)) (called f) o es k t fs (sign s) (sign_le a)
-    | false ↦ λ a. tt ] refl
+      | true ↦ λ a. bracket_needs (needs (want gs)) (called f) o es k t fs (sign s) (sign_le a)
+      | false ↦ λ a. tt
+    ] refl
   where
-  gs : List Frame
-  gs = open_end (unary s) ∷ (fixed (in_bracket (called f) o es) ∷ fs)
-  sign_le : is_argument s.kind ≡ true → needs (want gs) ≤ depth_of (sign_ready f o es s fs)
-  sign_le a =
-      elim (nat_le (depth_of (sign_ready f o es s fs)) (depth_of (zero_ready gs))) as (λ b. nat_le (depth_of (sign_ready f o es s fs)) (depth_of (zero_ready gs)) ≡ b → depth_of (if is_argument s.kind && b then sign_ready f o es s fs else zero_ready gs) ≤ depth_of (sign_ready f o es s fs)) [
-        true ↦ λ h. subst (λ x. depth_of (if x && true then sign_ready f o es s fs else zero_ready gs) ≤ depth_of (sign_ready f o es s fs)) (sym a) (omega arith)
-      | false ↦ λ h. subst (λ x. depth_of (if x && false then sign_ready f o es s fs else zero_ready gs) ≤ depth_of (sign_ready f o es s fs)) (sym a) (not_le (depth_of (sign_ready f o es s fs)) (depth_of (zero_ready gs)) h) ] refl
+    gs : List Frame
+    gs = open_end (unary s) ∷ (fixed (in_bracket (called f) o es) ∷ fs)
+
+    sign_le : is_argument s.kind ≡ true → needs (want gs) ≤ depth_of (sign_ready f o es s fs)
+    sign_le a =
+        elim (nat_le (depth_of (sign_ready f o es s fs)) (depth_of (zero_ready gs))) as (λ b. nat_le (depth_of (sign_ready f o es s fs)) (depth_of (zero_ready gs)) ≡ b → depth_of (if is_argument s.kind && b then sign_ready f o es s fs else zero_ready gs) ≤ depth_of (sign_ready f o es s fs)) [
+          | true ↦ λ h. subst (λ x. depth_of (if x && true then sign_ready f o es s fs else zero_ready gs) ≤ depth_of (sign_ready f o es s fs)) (sym a) (omega arith)
+          | false ↦ λ h. subst (λ x. depth_of (if x && false then sign_ready f o es s fs else zero_ready gs) ≤ depth_of (sign_ready f o es s fs)) (sym a) (not_le (depth_of (sign_ready f o es s fs)) (depth_of (zero_ready gs)) h)
+        ] refl
 end_needs k t _ = tt
 
 want_needs : (k : Kind) (t : Token) (fs : List Frame) → NoLess (needs (want fs)) (want_step k t fs)
 want_needs k t fs = elim k as (λ k. NoLess (needs (want fs)) (want_end k t fs) → NoLess (needs (want fs)) (want_step k t fs)) [
-    Number n ↦ λ z. a | Text n ↦ λ z. a | Name n ↦ λ z. a | True ↦ λ z. a | False ↦ λ z. a | Nothing ↦ λ z. a
+  | Number n ↦ λ z. a
+  | Text n ↦ λ z. a
+  | Name n ↦ λ z. a
+  | True ↦ λ z. a
+  | False ↦ λ z. a
+  | Nothing ↦ λ z. a
   | Wide b ↦ λ z. wide_needs t fs
-  | Plus ↦ λ z. unary_needs t fs | Minus ↦ λ z. unary_needs t fs | Not ↦ λ z. unary_needs t fs | Complement ↦ λ z. unary_needs t fs
-  | Star ↦ λ z. operator_needs t fs | And ↦ λ z. operator_needs t fs | Or ↦ λ z. operator_needs t fs | Xor ↦ λ z. operator_needs t fs
-  | OpenParen ↦ λ z. operand_needs fs (shut_bracket grouped t none zero_leaf) | OpenBracket ↦ λ z. operand_needs fs (shut_bracket itemed t none zero_leaf)
-  | SpawnAt ↦ λ z. spawn_needs t fs | FetchFrom ↦ λ z. spawn_needs t fs
-  | _ ↦ λ z. z ] (end_needs k t fs)
+  | Plus ↦ λ z. unary_needs t fs
+  | Minus ↦ λ z. unary_needs t fs
+  | Not ↦ λ z. unary_needs t fs
+  | Complement ↦ λ z. unary_needs t fs
+  | Star ↦ λ z. operator_needs t fs
+  | And ↦ λ z. operator_needs t fs
+  | Or ↦ λ z. operator_needs t fs
+  | Xor ↦ λ z. operator_needs t fs
+  | OpenParen ↦ λ z. operand_needs fs (shut_bracket grouped t none zero_leaf)
+  | OpenBracket ↦ λ z. operand_needs fs (shut_bracket itemed t none zero_leaf)
+  | SpawnAt ↦ λ z. spawn_needs t fs
+  | FetchFrom ↦ λ z. spawn_needs t fs
+  | _ ↦ λ z. z
+] (end_needs k t fs)
   where
-  a : needs (want fs) ≤ height (wrap fs (leaf t))
-  a = operand_needs fs (leaf t)
+    a : needs (want fs) ≤ height (wrap fs (leaf t))
+    a = operand_needs fs (leaf t)
 
 -- ---- behind an operand
 
@@ -278,22 +310,35 @@ flat_needs n fs e d h k p c t = let g = grows fs e d (flat_under e d k (λ z. p)
 fixed_needs : (n : ℕ) (f : Fixed) (k : Kind) (t : Token) (fs : List Frame) (e : Syntax) → n ≤ height (wrap fs (shut f e)) → NoLess n (fixed_step f k t fs e)
 fixed_needs n (in_bracket b o es) k t fs e h = bracket_needs n b o es k t fs e h
 fixed_needs n (in_middle c q) k t fs e h = elim k as (λ k. NoLess n (middle_step c q k t fs e)) [
-    Colon ↦ flat_needs n fs (shut (in_middle c q) e) (ending (choice c q e t) zero_leaf) h (omega arith) refl refl refl | _ ↦ tt ]
+  | Colon ↦ flat_needs n fs (shut (in_middle c q) e) (ending (choice c q e t) zero_leaf) h (omega arith) refl refl refl
+  | _ ↦ tt
+]
 fixed_needs n (in_group hold p) k t fs e h = elim k as (λ k. NoLess n (group_step hold p k t fs e)) [
-    CloseParen ↦ filled_needs n hold (bracket grouped p none (just e) (token CloseParen)) (bracket grouped p none (just e) t) fs (omega arith) h | _ ↦ tt ]
+  | CloseParen ↦ filled_needs n hold (bracket grouped p none (just e) (token CloseParen)) (bracket grouped p none (just e) t) fs (omega arith) h
+  | _ ↦ tt
+]
 fixed_needs n (in_generator o x gens f v i) k t fs e h = elim k as (λ k. NoLess n (generator_step o x gens f v i k t fs e)) [
-    Comma ↦ may_if n (await fs (generator_name o x (with_generator gens f v i e) t)) (nat_le (count gens) 1) (λ c. further) | CloseBracket ↦ same | _ ↦ tt ]
+  | Comma ↦ may_if n (await fs (generator_name o x (with_generator gens f v i e) t)) (nat_le (count gens) 1) (λ c. further)
+  | CloseBracket ↦ same
+  | _ ↦ tt
+]
   where
-  d : Syntax
-  d = comprehension o x (with_generator (with_generator gens f v i e) t a_name (token In) zero_leaf) (token CloseBracket)
-  further : n ≤ height (wrap fs d)
-  further = flat_needs n fs (shut (in_generator o x gens f v i) e) d h (omega (arith, height_with_generator (with_generator gens f v i e) t a_name (token In) zero_leaf)) refl refl refl
-  same : n ≤ height (wrap fs (comprehension o x (with_generator gens f v i e) t))
-  same = flat_needs n fs (shut (in_generator o x gens f v i) e) (comprehension o x (with_generator gens f v i e) t) h (omega arith) refl refl refl
+    d : Syntax
+    d = comprehension o x (with_generator (with_generator gens f v i e) t a_name (token In) zero_leaf) (token CloseBracket)
+
+    further : n ≤ height (wrap fs d)
+    further = flat_needs n fs (shut (in_generator o x gens f v i) e) d h (omega (arith, height_with_generator (with_generator gens f v i e) t a_name (token In) zero_leaf)) refl refl refl
+
+    same : n ≤ height (wrap fs (comprehension o x (with_generator gens f v i e) t))
+    same = flat_needs n fs (shut (in_generator o x gens f v i) e) (comprehension o x (with_generator gens f v i e) t) h (omega arith) refl refl refl
 fixed_needs n (in_size c type z o) k t fs e h = elim k as (λ k. NoLess n (size_step c type z o k t fs e)) [
-    CloseParen ↦ flat_needs n fs (shut (in_size c type z o) e) (a_remote c type z o e t) h (omega arith) refl refl refl | _ ↦ tt ]
+  | CloseParen ↦ flat_needs n fs (shut (in_size c type z o) e) (a_remote c type z o e t) h (omega arith) refl refl refl
+  | _ ↦ tt
+]
 fixed_needs n (in_place c type z o size p comma) k t fs e h = elim k as (λ k. NoLess n (place_step c type z o size p comma k t fs e)) [
-    CloseParen ↦ flat_needs n fs (shut (in_place c type z o size p comma) e) (remote c type z o size p comma e t) h (omega arith) refl refl refl | _ ↦ tt ]
+  | CloseParen ↦ flat_needs n fs (shut (in_place c type z o size p comma) e) (remote c type z o size p comma e t) h (omega arith) refl refl refl
+  | _ ↦ tt
+]
 
 at_end_needs : (n : ℕ) (k : Kind) (t : Token) (r : List Frame × Syntax) → n ≤ height (wrap r.0 r.1) → NoLess n (at_end k t r)
 at_end_needs n k t ([], e) h = tt
@@ -306,22 +351,26 @@ closed_needs p fs e = omega (arith, ap height (close_wrap p fs e))
 -- a left operand is under its operator
 binary_left : (t : Token) (e : Syntax) → is_plain e ≡ true → Under e (ending (binary e t) zero_leaf)
 binary_left t e p = record {
-    tall = omega arith; plain = λ h. p;
-    chain = λ h. (parts h);
-    row = λ h. omega (arith, binary_row e t zero_leaf);
-    few = λ h. omega (arith, binary_count e t zero_leaf);
-    tight = λ h. cc }
+  tall = omega arith;
+  plain = λ h. p;
+  chain = λ h. (parts h);
+  row = λ h. omega (arith, binary_row e t zero_leaf);
+  few = λ h. omega (arith, binary_count e t zero_leaf);
+  tight = λ h. cc;
+}
   where
-  parts : is_chain (ending (binary e t) zero_leaf) ≡ true → is_chain e ≡ true
-  parts h = (both (true && true) (is_chain e) (both (is_minus t.kind && t.spaced) ((true && true) && is_chain e) h).1).1
+    parts : is_chain (ending (binary e t) zero_leaf) ≡ true → is_chain e ≡ true
+    parts h = (both (true && true) (is_chain e) (both (is_minus t.kind && t.spaced) ((true && true) && is_chain e) h).1).1
 
 call_left : (t : Token) (e : Syntax) → is_plain e ≡ true → Under e (shut_bracket (called e) t none zero_leaf)
 call_left t e p = record {
-    tall = omega arith; plain = λ h. p;
-    chain = λ h. (both (t.spaced && true) (is_chain e) h).1;
-    row = λ h. omega (arith, called_row e t none (just zero_leaf) (token CloseParen));
-    few = λ h. omega (arith, count_with (cells_of e) None (bracket grouped t none (just zero_leaf) (token CloseParen)));
-    tight = λ h. h }
+  tall = omega arith;
+  plain = λ h. p;
+  chain = λ h. (both (t.spaced && true) (is_chain e) h).1;
+  row = λ h. omega (arith, called_row e t none (just zero_leaf) (token CloseParen));
+  few = λ h. omega (arith, count_with (cells_of e) None (bracket grouped t none (just zero_leaf) (token CloseParen)));
+  tight = λ h. h;
+}
 
 closed_plain : (p : ℕ) (gs : List Frame) (r : List Frame × Syntax) → IsClosed p gs r → 1 ≤ p → is_plain r.1 ≡ true
 closed_plain p gs r c h = level_plain (ranges r.0) (negated r.0) c.level r.1 (omega (arith, c.bound, h)) c.operand
@@ -343,23 +392,26 @@ keyword_needs t fs _ = tt
 brace_needs : (t : Token) (fs : List Frame) (e : Syntax) → NoLess (height (wrap fs e)) (at_brace t fs e)
 brace_needs t (open_end (lambda (bracket grouped l none nothing r) a) ∷ (fixed (in_bracket (called (leaf f)) o none) ∷ fs)) (leaf w) =
     may_if (height (wrap fs (shut_bracket (called (leaf f)) o none (ending (lambda (bracket grouped l none nothing r) a) (leaf w)))))
-      (await fs (element_type (record { callee = f; opens = o; none_opens = l; none_closes = r; arrow = a; word = w; brace = t })))
-      (is_word word.RemoteChannel f.kind && is_word word.Channel w.kind)
-      (λ k. flat_needs (height (wrap fs (shut_bracket (called (leaf f)) o none (ending (lambda (bracket grouped l none nothing r) a) (leaf w))))) fs
-          (shut_bracket (called (leaf f)) o none (ending (lambda (bracket grouped l none nothing r) a) (leaf w)))
-          (a_remote (record { callee = f; opens = o; none_opens = l; none_closes = r; arrow = a; word = w; brace = t }) an_int (token CloseBrace) (token OpenParen) zero_leaf (token CloseParen)) (omega arith) (omega arith) refl refl refl)
+    (await fs (element_type (record { callee = f; opens = o; none_opens = l; none_closes = r; arrow = a; word = w; brace = t })))
+    (is_word word.RemoteChannel f.kind && is_word word.Channel w.kind)
+    (λ k. flat_needs (height (wrap fs (shut_bracket (called (leaf f)) o none (ending (lambda (bracket grouped l none nothing r) a) (leaf w))))) fs
+    (shut_bracket (called (leaf f)) o none (ending (lambda (bracket grouped l none nothing r) a) (leaf w)))
+    (a_remote (record { callee = f; opens = o; none_opens = l; none_closes = r; arrow = a; word = w; brace = t }) an_int (token CloseBrace) (token OpenParen) zero_leaf (token CloseParen)) (omega arith) (omega arith) refl refl refl)
 brace_needs t _ _ = tt
 
 more_needs : (k : Kind) (t : Token) (fs : List Frame) (e : Syntax) → IsState (have fs e) → is_plain e ≡ true → NoLess (height (wrap fs e)) (have_more k t fs e)
 more_needs k t fs e w p = elim k as (λ k. NoLess (height (wrap fs e)) (at_end k t (close 0 fs e)) → NoLess (height (wrap fs e)) (have_more k t fs e)) [
-    OpenParen ↦ λ z. grows fs e (shut_bracket (called e) t none zero_leaf) (call_left t e p)
+  | OpenParen ↦ λ z. grows fs e (shut_bracket (called e) t none zero_leaf) (call_left t e p)
   | OpenBracket ↦ λ z. flat_bracket
-  | OpenBrace ↦ λ z. brace_needs t fs e | Arrow ↦ λ z. arrow_needs t fs e p | Assign ↦ λ z. keyword_needs t fs e
+  | OpenBrace ↦ λ z. brace_needs t fs e
+  | Arrow ↦ λ z. arrow_needs t fs e p
+  | Assign ↦ λ z. keyword_needs t fs e
   | Question ↦ λ z. question_needs (height (wrap fs e)) t (close 3 fs e) (closed_needs 3 fs e) (closed_plain 3 fs (close 3 fs e) (closed 3 fs e (omega arith) w) (omega arith))
-  | _ ↦ λ z. z ] (at_end_needs (height (wrap fs e)) k t (close 0 fs e) (closed_needs 0 fs e))
+  | _ ↦ λ z. z
+] (at_end_needs (height (wrap fs e)) k t (close 0 fs e) (closed_needs 0 fs e))
   where
-  flat_bracket : height (wrap fs e) ≤ height (wrap fs (shut_bracket (indexed e) t none zero_leaf))
-  flat_bracket = flat_needs (height (wrap fs e)) fs e (shut_bracket (indexed e) t none zero_leaf) (omega arith) (omega arith) p refl refl
+    flat_bracket : height (wrap fs e) ≤ height (wrap fs (shut_bracket (indexed e) t none zero_leaf))
+    flat_bracket = flat_needs (height (wrap fs e)) fs e (shut_bracket (indexed e) t none zero_leaf) (omega arith) (omega arith) p refl refl
 
 left_bounds : (k : Kind) → 1 ≤ strength k → (1 ≤ left k) × (left k ≤ 9)
 left_bounds k h = (omega (arith, left_ge k h), omega (arith, left_le k))
@@ -368,11 +420,13 @@ have_needs : (t : Token) (fs : List Frame) (e : Syntax) → IsState (have fs e) 
 have_needs t fs e w =
     let p = level_plain (ranges fs) (negated fs) 10 e (omega arith) w.now in
     elim (nat_le 1 (strength t.kind)) as (λ b. nat_le 1 (strength t.kind) ≡ b → NoLess (height (wrap fs e)) (if b then (if stands t.kind (ranges fs) then at_binary t (close (left t.kind) fs e) else at_end t.kind t (close 0 fs e)) else have_more t.kind t fs e)) [
-      true ↦ λ h. elim (stands t.kind (ranges fs)) as (λ b. NoLess (height (wrap fs e)) (if b then at_binary t (close (left t.kind) fs e) else at_end t.kind t (close 0 fs e))) [
-          true ↦ (let l = left_bounds t.kind (le_of 1 (strength t.kind) h) in
+      | true ↦ λ h. elim (stands t.kind (ranges fs)) as (λ b. NoLess (height (wrap fs e)) (if b then at_binary t (close (left t.kind) fs e) else at_end t.kind t (close 0 fs e))) [
+        | true ↦ (let l = left_bounds t.kind (le_of 1 (strength t.kind) h) in
             binary_needs (height (wrap fs e)) fs t (close (left t.kind) fs e) (closed_needs (left t.kind) fs e) (closed_plain (left t.kind) fs (close (left t.kind) fs e) (closed (left t.kind) fs e l.1 w) l.0))
-        | false ↦ at_end_needs (height (wrap fs e)) t.kind t (close 0 fs e) (closed_needs 0 fs e) ]
-    | false ↦ λ h. more_needs t.kind t fs e w p ] refl
+        | false ↦ at_end_needs (height (wrap fs e)) t.kind t (close 0 fs e) (closed_needs 0 fs e)
+      ]
+      | false ↦ λ h. more_needs t.kind t fs e w p
+    ] refl
 
 -- ---- a step
 
@@ -381,7 +435,7 @@ held_zero : (hold : Hold) (fs : List Frame) → needs (await fs (atoms hold)) �
 held_zero (spawning s) fs = omega arith
 held_zero (rows o x cells None) fs = grows fs (filled_rows o x cells) (held (rows o x cells None) zero_leaf)
     (flat_under (filled_rows o x cells) (held (rows o x cells None) zero_leaf)
-      (omega (arith, height_rows o x cells, height_rows o x (with_cell cells None zero_leaf), height_with_cell cells None zero_leaf)) (λ h. refl) refl refl)
+    (omega (arith, height_rows o x cells, height_rows o x (with_cell cells None zero_leaf), height_with_cell cells None zero_leaf)) (λ h. refl) refl refl)
 held_zero (rows o x cells (Some q)) fs = omega arith
 
 any_atom : (hold : Hold) (a : Syntax) (fs : List Frame) → needs (await fs (atoms hold)) ≤ needs (filled hold a fs)
@@ -393,8 +447,8 @@ begun_atom hold a fs = let g = grows fs (held hold zero_leaf) (held hold a) (hel
 next_row_needs : (hold : Hold) (t : Token) (fs : List Frame) → NoLess (needs (await fs (atoms hold))) (next_row hold t fs)
 next_row_needs (rows o x cells None) t fs = may_if (needs (await fs (atoms (rows o x cells None)))) (await fs (atoms (rows o x cells (Some t)))) (may_go_on cells) (λ h.
     grows fs (filled_rows o x cells) (held (rows o x cells (Some t)) zero_leaf)
-      (flat_under (filled_rows o x cells) (held (rows o x cells (Some t)) zero_leaf)
-        (omega (arith, height_rows o x cells, height_rows o x (with_cell cells (Some t) zero_leaf), height_with_cell cells (Some t) zero_leaf)) (λ h. refl) refl refl))
+    (flat_under (filled_rows o x cells) (held (rows o x cells (Some t)) zero_leaf)
+    (omega (arith, height_rows o x cells, height_rows o x (with_cell cells (Some t) zero_leaf), height_with_cell cells (Some t) zero_leaf)) (λ h. refl) refl refl))
 next_row_needs (rows o x cells (Some q)) t fs = tt
 next_row_needs (spawning s) t fs = tt
 
@@ -406,45 +460,51 @@ rows_end_needs (spawning s) t fs = tt
 
 atom_needs : (hold : Hold) (k : Kind) (t : Token) (fs : List Frame) → NoLess (needs (await fs (atoms hold))) (atom_step hold k t fs)
 atom_needs hold k t fs = elim k as (λ k. NoLess (needs (await fs (atoms hold))) (atom_step hold k t fs)) [
-    Number n ↦ any_atom hold (leaf t) fs
+  | Number n ↦ any_atom hold (leaf t) fs
   | Name n ↦ any_atom hold (leaf t) fs
   | Minus ↦ begun_atom hold (ending (unary t) zero_leaf) fs
   | OpenParen ↦ begun_atom hold (bracket grouped t none (just zero_leaf) (token CloseParen)) fs
-  | _ ↦ tt ]
+  | _ ↦ tt
+]
 
 atoms_needs : (hold : Hold) (k : Kind) (t : Token) (fs : List Frame) → NoLess (needs (await fs (atoms hold))) (atoms_step hold k t fs)
 atoms_needs hold k t fs = elim k as (λ k. NoLess (needs (await fs (atoms hold))) (if takes hold t then atom_step hold k t fs else None) → NoLess (needs (await fs (atoms hold))) (atoms_step hold k t fs)) [
-    Semicolon ↦ λ z. next_row_needs hold t fs
+  | Semicolon ↦ λ z. next_row_needs hold t fs
   | CloseBracket ↦ λ z. rows_end_needs hold t fs
-  | _ ↦ λ z. z ] (elim (takes hold t) as (λ b. NoLess (needs (await fs (atoms hold))) (if b then atom_step hold k t fs else None)) [ true ↦ atom_needs hold k t fs | false ↦ tt ])
+  | _ ↦ λ z. z
+] (elim (takes hold t) as (λ b. NoLess (needs (await fs (atoms hold))) (if b then atom_step hold k t fs else None)) [ true ↦ atom_needs hold k t fs | false ↦ tt ])
 
 words_needs : (w : Words) (t : Token) (fs : List Frame) → NoLess (needs (await fs w)) (words_step w t fs)
 words_needs (operator s) t fs = sign_needs s t fs
   where
-  sign_needs : (s t : Token) (fs : List Frame) → NoLess (needs (await fs (operator s))) (words_step (operator s) t fs)
-  sign_needs s t (fixed (in_bracket (called f) o es) ∷ fs) = bracket_needs (needs (await (fixed (in_bracket (called f) o es) ∷ fs) (operator s))) (called f) o es t.kind t fs (sign s) (omega arith)
-  sign_needs s t _ = tt
+    sign_needs : (s t : Token) (fs : List Frame) → NoLess (needs (await fs (operator s))) (words_step (operator s) t fs)
+    sign_needs s t (fixed (in_bracket (called f) o es) ∷ fs) = bracket_needs (needs (await (fixed (in_bracket (called f) o es) ∷ fs) (operator s))) (called f) o es t.kind t fs (sign s) (omega arith)
+    sign_needs s t _ = tt
 words_needs (atoms hold) t fs = atoms_needs hold t.kind t fs
 words_needs (minus hold m) t fs = may_if (needs (await fs (minus hold m))) (filled hold (ending (unary m) (leaf t)) fs) (is_tight t)
     (λ h. filled_needs (needs (await fs (minus hold m))) hold (ending (unary m) zero_leaf) (ending (unary m) (leaf t)) fs (omega arith) (omega arith))
 words_needs (generator_name o x gens f) t fs = may_if (needs (await fs (generator_name o x gens f))) (await fs (generator_in o x gens f t)) (is_name t.kind) (λ h.
     flat_needs (needs (await fs (generator_name o x gens f))) fs (comprehension o x (with_generator gens f a_name (token In) zero_leaf) (token CloseBracket)) (comprehension o x (with_generator gens f t (token In) zero_leaf) (token CloseBracket))
-      (omega arith) (omega (arith, height_with_generator gens f a_name (token In) zero_leaf, height_with_generator gens f t (token In) zero_leaf)) refl refl refl)
+    (omega arith) (omega (arith, height_with_generator gens f a_name (token In) zero_leaf, height_with_generator gens f t (token In) zero_leaf)) refl refl refl)
 words_needs (generator_in o x gens f n) t fs = elim t.kind as (λ k. NoLess (needs (await fs (generator_in o x gens f n))) (generator_in_step o x gens f n k t fs)) [
-    In ↦ flat_needs (needs (await fs (generator_in o x gens f n))) fs (comprehension o x (with_generator gens f n (token In) zero_leaf) (token CloseBracket)) (comprehension o x (with_generator gens f n t zero_leaf) (token CloseBracket))
+  | In ↦ flat_needs (needs (await fs (generator_in o x gens f n))) fs (comprehension o x (with_generator gens f n (token In) zero_leaf) (token CloseBracket)) (comprehension o x (with_generator gens f n t zero_leaf) (token CloseBracket))
       (omega arith) (omega (arith, height_with_generator gens f n (token In) zero_leaf, height_with_generator gens f n t zero_leaf)) refl refl refl
-  | _ ↦ tt ]
+  | _ ↦ tt
+]
 words_needs (element_type c) t fs = may_if (needs (await fs (element_type c))) (await fs (type_end c t)) (is_element_type t.kind)
     (λ h. flat_needs (needs (await fs (element_type c))) fs (a_remote c an_int (token CloseBrace) (token OpenParen) zero_leaf (token CloseParen)) (a_remote c t (token CloseBrace) (token OpenParen) zero_leaf (token CloseParen)) (omega arith) (omega arith) refl refl refl)
 words_needs (type_end c type) t fs = elim t.kind as (λ k. NoLess (needs (await fs (type_end c type))) (type_end_step c type k t fs)) [
-    CloseBrace ↦ flat_needs (needs (await fs (type_end c type))) fs (a_remote c type (token CloseBrace) (token OpenParen) zero_leaf (token CloseParen)) (a_remote c type t (token OpenParen) zero_leaf (token CloseParen)) (omega arith) (omega arith) refl refl refl
-  | _ ↦ tt ]
+  | CloseBrace ↦ flat_needs (needs (await fs (type_end c type))) fs (a_remote c type (token CloseBrace) (token OpenParen) zero_leaf (token CloseParen)) (a_remote c type t (token OpenParen) zero_leaf (token CloseParen)) (omega arith) (omega arith) refl refl refl
+  | _ ↦ tt
+]
 words_needs (size_begin c type z) t fs = elim t.kind as (λ k. NoLess (needs (await fs (size_begin c type z))) (size_begin_step c type z k t fs)) [
-    OpenParen ↦ flat_needs (needs (await fs (size_begin c type z))) fs (a_remote c type z (token OpenParen) zero_leaf (token CloseParen)) (shut (in_size c type z t) zero_leaf) (omega arith) (omega arith) refl refl refl
-  | _ ↦ tt ]
+  | OpenParen ↦ flat_needs (needs (await fs (size_begin c type z))) fs (a_remote c type z (token OpenParen) zero_leaf (token CloseParen)) (shut (in_size c type z t) zero_leaf) (omega arith) (omega arith) refl refl refl
+  | _ ↦ tt
+]
 words_needs (place_begin c type z o size p) t fs = elim t.kind as (λ k. NoLess (needs (await fs (place_begin c type z o size p))) (place_begin_step c type z o size p k t fs)) [
-    Comma ↦ flat_needs (needs (await fs (place_begin c type z o size p))) fs (a_remote c type z o size p) (shut (in_place c type z o size p t) zero_leaf) (omega arith) (omega arith) refl refl refl
-  | _ ↦ tt ]
+  | Comma ↦ flat_needs (needs (await fs (place_begin c type z o size p))) fs (a_remote c type z o size p) (shut (in_place c type z o size p t) zero_leaf) (omega arith) (omega arith) refl refl refl
+  | _ ↦ tt
+]
 
 step_at_needs : (t : Token) (fs : List Frame) (n : Now) → IsState (record { frames = fs; now = n }) → NoLess (needs (record { frames = fs; now = n })) (step_at t fs n)
 step_at_needs t fs wanted w = want_needs t.kind t fs

@@ -109,12 +109,12 @@ count_chained (generator t n i e ds) gens = omega (arith, count_chained ds gens)
 number_name : (t : Token) → IsTrue (is_tight t) → IsTrue (if is_leaf t.kind then true else true && is_least t.kind t.spaced)
 number_name t h = number t.kind t.spaced h
   where
-  number : (k : Kind) (b : Bool) → (if b then false else (if is_number k then true else is_least k b)) ≡ true → IsTrue (if is_leaf k then true else is_least k b)
-  number (Number n) b h = refl
-  number (Wide g) false h = h
-  number (Wide g) true h = cc
-  number _ true h = cc
-  number _ false h = cc
+    number : (k : Kind) (b : Bool) → (if b then false else (if is_number k then true else is_least k b)) ≡ true → IsTrue (if is_leaf k then true else is_least k b)
+    number (Number n) b h = refl
+    number (Wide g) false h = h
+    number (Wide g) true h = cc
+    number _ true h = cc
+    number _ false h = cc
 
 both : (a b : Bool) → (a && b) ≡ true → (a ≡ true) × (b ≡ true)
 both true b h = (refl, h)
@@ -177,7 +177,7 @@ channel_runs m c type shut o fs rest w k s p =
     ∙ at_have m Arrow c.arrow gs ns (c.word ∷ c.brace ∷ type ∷ shut ∷ o ∷ rest) (want (open_end (lambda ns c.arrow) ∷ gs)) w.4 refl
     ∙ leaf_runs m c.word (open_end (lambda ns c.arrow) ∷ gs) (c.brace ∷ type ∷ shut ∷ o ∷ rest) (word_leaf word.Channel c.word.kind w.5)
     ∙ at_have m OpenBrace c.brace (open_end (lambda ns c.arrow) ∷ gs) (leaf c.word) (type ∷ shut ∷ o ∷ rest) (await fs (element_type c)) w.6
-        (if_some (is_word word.RemoteChannel c.callee.kind && is_word word.Channel c.word.kind) (await fs (element_type c)) (and_true (is_word word.RemoteChannel c.callee.kind) (is_word word.Channel c.word.kind) w.0 w.5))
+    (if_some (is_word word.RemoteChannel c.callee.kind && is_word word.Channel c.word.kind) (await fs (element_type c)) (and_true (is_word word.RemoteChannel c.callee.kind) (is_word word.Channel c.word.kind) w.0 w.5))
     ∙ m.goes type (shut ∷ o ∷ rest) (await fs (element_type c)) (await fs (type_end c type)) (if_some (is_element_type type.kind) (await fs (type_end c type)) k)
     ∙ m.goes shut (o ∷ rest) (await fs (type_end c type)) (await fs (size_begin c type shut)) (ap (λ k. type_end_step c type k shut fs) s)
     ∙ m.goes o rest (await fs (size_begin c type shut)) (want (fixed (in_size c type shut o) ∷ fs)) (ap (λ k. size_begin_step c type shut k o fs) p)
@@ -185,10 +185,10 @@ channel_runs m c type shut o fs rest w k s p =
 atom_chain : (t : Token) → is_atom (leaf t) ≡ true → is_chain (leaf t) ≡ true
 atom_chain t h = at t.kind h
   where
-  at : (k : Kind) → (if is_number k then true else is_name k) ≡ true → (if is_number k then true else (if is_name k then true else is_least k t.spaced)) ≡ true
-  at (Number n) h = refl
-  at (Name n) h = refl
-  at _ h = cc
+    at : (k : Kind) → (if is_number k then true else is_name k) ≡ true → (if is_number k then true else (if is_name k then true else is_least k t.spaced)) ≡ true
+    at (Number n) h = refl
+    at (Name n) h = refl
+    at _ h = cc
 
 atom_many : (a : Syntax) (cells : Cells) → IsTrue (is_atom a) → IsTrue (are_many cells) → IsTrue (are_many (joined (cells_of a) cells))
 atom_many (leaf t) cells i m = m
@@ -215,47 +215,65 @@ mutual
   reach m n (ending h e) fs w g d rest =
       let r = reach m (asks h) e (open_end h ∷ fs) w.2 (no_sign (ranges fs) (is_negation h) (asks h) e w.2 (asks_ge h)) (omega arith) rest in
       record {
-        frames = r.frames; operand = r.operand;
+        frames = r.frames;
+        operand = r.operand;
         runs = reach_head m h fs w.1 (omega (arith, w.0, d)) (put e rest) ∙ r.runs;
         closes = λ p l k. r.closes p (omega (arith, w.0, level_asks h)) k ∙ ap (λ b. if b then close p fs (ending h e) else (open_end h ∷ fs, e)) (test_le p (level h) (omega (arith, w.0)));
         same = r.same;
-        exact = λ l. absurd (omega (arith, w.0, level_le h)) }
+        exact = λ l. absurd (omega (arith, w.0, level_le h));
+      }
   reach m n (bracket b o most last c) fs w g d rest = record {
-      frames = fs; operand = bracket b o most last c;
-      runs = reach_bracket m b o fs w.0 w.1 (put_items most (put_maybe last (c ∷ rest)))
-          ∙ reach_items m most b o none fs w.2 (put_maybe last (c ∷ rest))
-          ∙ ap (λ es. m.run (put_maybe last (c ∷ rest)) (want (fixed (in_bracket b o es) ∷ fs))) (none_after most)
-          ∙ reach_last m last b o most c fs w.3 w.4 w.5 w.6 rest;
-      closes = λ p h k. refl; same = refl; exact = λ h. refl }
+    frames = fs;
+    operand = bracket b o most last c;
+    runs = reach_bracket m b o fs w.0 w.1 (put_items most (put_maybe last (c ∷ rest)))
+        ∙ reach_items m most b o none fs w.2 (put_maybe last (c ∷ rest))
+        ∙ ap (λ es. m.run (put_maybe last (c ∷ rest)) (want (fixed (in_bracket b o es) ∷ fs))) (none_after most)
+        ∙ reach_last m last b o most c fs w.3 w.4 w.5 w.6 rest;
+    closes = λ p h k. refl;
+    same = refl;
+    exact = λ h. refl;
+  }
   reach m n (matrix o a cells c) fs w g d rest = record {
-      frames = fs; operand = matrix o a cells c;
-      runs = at_want m OpenBracket o fs (put a (put_cells cells (c ∷ rest))) (want (fixed (in_bracket itemed o none) ∷ fs)) w.0 refl
-          ∙ reach_first m a fs o w.1 w.2 (put_cells cells (c ∷ rest)) (m.run rest (have fs (matrix o a cells c)))
-              (λ s e q. reach_chain m cells s o c fs w.3 w.6 q
-                  (subst (λ y. IsTrue (are_many (joined (cells_of y) cells))) (sym e) (atom_many a cells w.2 w.4))
-                  (subst (λ y. is_full (joined (cells_of y) cells) ≡ true) (sym e) (ap is_full (atom_cells a cells w.2) ∙ w.5)) rest
-                ∙ ap (λ y. m.run rest (have fs (matrix o (first_of y) (joined (cells_of y) cells) c))) e ∙ ap (λ y. m.run rest (have fs y)) (atom_matrix o a cells c w.2));
-      closes = λ p h k. refl; same = refl; exact = λ h. refl }
+    frames = fs;
+    operand = matrix o a cells c;
+    runs = at_want m OpenBracket o fs (put a (put_cells cells (c ∷ rest))) (want (fixed (in_bracket itemed o none) ∷ fs)) w.0 refl
+        ∙ reach_first m a fs o w.1 w.2 (put_cells cells (c ∷ rest)) (m.run rest (have fs (matrix o a cells c)))
+        (λ s e q. reach_chain m cells s o c fs w.3 w.6 q
+        (subst (λ y. IsTrue (are_many (joined (cells_of y) cells))) (sym e) (atom_many a cells w.2 w.4))
+        (subst (λ y. is_full (joined (cells_of y) cells) ≡ true) (sym e) (ap is_full (atom_cells a cells w.2) ∙ w.5)) rest
+        ∙ ap (λ y. m.run rest (have fs (matrix o (first_of y) (joined (cells_of y) cells) c))) e ∙ ap (λ y. m.run rest (have fs y)) (atom_matrix o a cells c w.2));
+    closes = λ p h k. refl;
+    same = refl;
+    exact = λ h. refl;
+  }
   reach m n (comprehension o e no_more c) fs w g d rest = absurd (omega (arith, w.3))
   reach m n (comprehension o e (generator t v i x gens) c) fs w g d rest =
       let r = reach m 1 e (fixed (in_bracket itemed o none) ∷ fs) w.1 (no_sign true false 1 e w.1 (omega arith)) (omega arith) (t ∷ v ∷ i ∷ put x (put_generators gens (c ∷ rest))) in
       record {
-        frames = fs; operand = comprehension o e (generator t v i x gens) c;
+        frames = fs;
+        operand = comprehension o e (generator t v i x gens) c;
         runs = at_want m OpenBracket o fs (put e (t ∷ v ∷ i ∷ put x (put_generators gens (c ∷ rest)))) (want (fixed (in_bracket itemed o none) ∷ fs)) w.0 refl
             ∙ ends m 1 (in_bracket itemed o none) fs e t (v ∷ i ∷ put x (put_generators gens (c ∷ rest))) (await fs (generator_name o e no_more t)) r (ap is_ender w.2.0 ∙ for_ends) (ap (λ k. bracket_step itemed o none k t fs e) w.2.0)
             ∙ reach_generators m (generator t v i x gens) For o e no_more c fs w.2 (omega (arith, w.4)) w.5 rest
             ∙ ap (λ gs. m.run rest (have fs (comprehension o e gs c))) (none_chained (generator t v i x gens));
-        closes = λ p h k. refl; same = refl; exact = λ h. refl }
+        closes = λ p h k. refl;
+        same = refl;
+        exact = λ h. refl;
+      }
   reach m n (remote c type shut o size z comma place last) fs w g d rest =
       let a = reach m 1 size (fixed (in_size c type shut o) ∷ fs) w.4 (no_sign true false 1 size w.4 (omega arith)) (omega arith) (z ∷ comma ∷ put place (last ∷ rest)) in
       let b = reach m 1 place (fixed (in_place c type shut o size z comma) ∷ fs) w.7 (no_sign true false 1 place w.7 (omega arith)) (omega arith) (last ∷ rest) in
       record {
-        frames = fs; operand = remote c type shut o size z comma place last;
+        frames = fs;
+        operand = remote c type shut o size z comma place last;
         runs = channel_runs m c type shut o fs (put size (z ∷ comma ∷ put place (last ∷ rest))) w.0 w.1 w.2 w.3
             ∙ ends m 1 (in_size c type shut o) fs size z (comma ∷ put place (last ∷ rest)) (await fs (place_begin c type shut o size z)) a (ap is_ender w.5 ∙ closer_ends grouped) (ap (λ k. size_step c type shut o k z fs size) w.5)
             ∙ m.goes comma (put place (last ∷ rest)) (await fs (place_begin c type shut o size z)) (want (fixed (in_place c type shut o size z comma) ∷ fs)) (ap (λ k. place_begin_step c type shut o size z k comma fs) w.6)
             ∙ ends m 1 (in_place c type shut o size z comma) fs place last rest (have fs (remote c type shut o size z comma place last)) b (ap is_ender w.8 ∙ closer_ends grouped) (ap (λ k. place_step c type shut o size z comma k last fs place) w.8);
-        closes = λ p h k. refl; same = refl; exact = λ h. refl }
+        closes = λ p h k. refl;
+        same = refl;
+        exact = λ h. refl;
+      }
 
   reach_head : (m : Follows) (h : Head) (fs : List Frame) → IsHead (ranges fs) (negated fs) h → demand fs ≤ level h → (rest : List Token)
       → m.run (put_head h rest) (want fs) ≡ m.run rest (want (open_end h ∷ fs))
@@ -266,15 +284,15 @@ mutual
       let u = left_le t.kind in
       let a = reach m (left t.kind) l fs w.2 (no_sign (ranges fs) (negated fs) (left t.kind) l w.2 (omega arith)) (omega arith) (t ∷ rest) in
       a.runs ∙ m.goes t rest (have a.frames a.operand) (want (open_end (binary l t) ∷ fs))
-        (binary_steps t a.frames fs a.operand l w.0 (ap (stands t.kind) a.same ∙ w.1) (a.closes (left t.kind) (omega arith) u ∙ stays (left t.kind) fs l g u (omega arith)) d)
+      (binary_steps t a.frames fs a.operand l w.0 (ap (stands t.kind) a.same ∙ w.1) (a.closes (left t.kind) (omega arith) u ∙ stays (left t.kind) fs l g u (omega arith)) d)
   reach_head m (choice c q x t) fs w d rest =
       let a = reach m 3 c fs w.0 (no_sign (ranges fs) (negated fs) 3 c w.0 (omega arith)) (omega arith) (q ∷ put x (t ∷ rest)) in
       let b = reach m 3 x (fixed (in_middle c q) ∷ fs) w.2 (no_sign false false 3 x w.2 (omega arith)) (omega arith) (t ∷ rest) in
       a.runs ∙ at_have m Question q a.frames a.operand (put x (t ∷ rest)) (want (fixed (in_middle c q) ∷ fs)) w.1
-          (question_steps q a.frames fs a.operand c (a.closes 3 (omega arith) (omega arith) ∙ stays 3 fs c (omega arith) (omega arith) (omega arith)) d)
+      (question_steps q a.frames fs a.operand c (a.closes 3 (omega arith) (omega arith) ∙ stays 3 fs c (omega arith) (omega arith) (omega arith)) d)
       ∙ b.runs ∙ at_have m Colon t b.frames b.operand rest (want (open_end (choice c q x t) ∷ fs)) w.3
-          (ap (λ y. if y then at_binary t (close 7 b.frames b.operand) else at_end Colon t (close 0 b.frames b.operand)) b.same
-            ∙ ap (at_end Colon t) (b.closes 0 (omega arith) (omega arith)))
+      (ap (λ y. if y then at_binary t (close 7 b.frames b.operand) else at_end Colon t (close 0 b.frames b.operand)) b.same
+      ∙ ap (at_end Colon t) (b.closes 0 (omega arith) (omega arith)))
   reach_head m (lambda ns t) fs w d rest =
       let a = reach m 10 ns fs w.0 (no_sign (ranges fs) (negated fs) 10 ns w.0 (omega arith)) (omega (arith, demand_le fs)) (t ∷ rest) in
       a.runs ∙ ap (m.run (t ∷ rest)) (a.exact (omega arith)) ∙ at_have m Arrow t fs ns rest (want (open_end (lambda ns t) ∷ fs)) w.2 (arrow_steps t fs ns d w.1)
@@ -311,7 +329,7 @@ mutual
       let r = reach m 1 y (fixed (in_bracket grouped p none) ∷ (fixed (in_bracket itemed o none) ∷ fs)) w.3 (no_sign true false 1 y w.3 (omega arith)) (omega arith) (z ∷ rest) in
       at_want m OpenParen p (fixed (in_bracket itemed o none) ∷ fs) (put y (z ∷ rest)) (want (fixed (in_bracket grouped p none) ∷ (fixed (in_bracket itemed o none) ∷ fs))) w.1 refl
       ∙ ends m 1 (in_bracket grouped p none) (fixed (in_bracket itemed o none) ∷ fs) y z rest (have (fixed (in_bracket itemed o none) ∷ fs) (bracket grouped p none (just y) z)) r
-          (ap is_ender w.4 ∙ closer_ends grouped) (close_steps grouped p none z (fixed (in_bracket itemed o none) ∷ fs) y w.4 refl w.6)
+      (ap is_ender w.4 ∙ closer_ends grouped) (close_steps grouped p none z (fixed (in_bracket itemed o none) ∷ fs) y w.4 refl w.6)
       ∙ go (bare (bracket grouped p none (just y) z)) refl refl
   reach_first m _ fs o w i rest target go = cc
 
@@ -335,26 +353,26 @@ mutual
       let a = ending (unary t) (leaf n) in
       let ds = with_cell (cells_of (shape_whole s)) None (ending (unary t) (leaf n)) in
       let i : joined (cells_of (ending (binary (shape_whole s) t) (leaf n))) cells ≡ joined (cells_of (shape_whole s)) (cell (ending (unary t) (leaf n)) cells) =
-          ap (λ ds. joined ds cells) (joined_none (with_cell (cells_of (shape_whole s)) None (ending (unary t) (leaf n)))) ∙ joined_cell (cells_of (shape_whole s)) (ending (unary t) (leaf n)) cells in
+      ap (λ ds. joined ds cells) (joined_none (with_cell (cells_of (shape_whole s)) None (ending (unary t) (leaf n)))) ∙ joined_cell (cells_of (shape_whole s)) (ending (unary t) (leaf n)) cells in
       let j = joined_cell (cells_of (shape_whole s)) (ending (unary t) (leaf n)) cells in
       let g : is_full (joined (with_cell (cells_of (shape_whole s)) None (ending (unary t) (leaf n))) cells) ≡ true = ap is_full j ∙ f in
       minus_runs m s o t fs (n ∷ put_cells cells (c ∷ rest)) (minus_of t.kind b.0) q
       ∙ number_runs m (shape_whole s) o t n fs (put_cells cells (c ∷ rest)) (m.run rest (have fs (matrix o (first_of (shape_whole s)) (joined (cells_of (shape_whole s)) (cell (ending (unary t) (leaf n)) cells)) c)))
-          (minus_of t.kind b.0) w.2 q b.1 (prefix_begun (with_cell (cells_of (shape_whole s)) None (ending (unary t) (leaf n))) cells g)
-          (reach_chain m cells (difference (shape_whole s) t (leaf n)) o c fs w.3 k (difference_chain (shape_whole s) t n q (minus_of t.kind b.0) w.2 b.1)
-              (subst (λ ds. IsTrue (are_many ds)) (sym i) y) (ap is_full i ∙ f) rest
-            ∙ ap (λ ds. m.run rest (have fs (matrix o (first_of (shape_whole s)) ds c))) i)
-          (reach_cells m cells o (first_of (shape_whole s)) (with_cell (cells_of (shape_whole s)) None (ending (unary t) (leaf n))) c fs w.3 k g rest
-            ∙ ap (λ ds. m.run rest (have fs (matrix o (first_of (shape_whole s)) ds c))) j)
+      (minus_of t.kind b.0) w.2 q b.1 (prefix_begun (with_cell (cells_of (shape_whole s)) None (ending (unary t) (leaf n))) cells g)
+      (reach_chain m cells (difference (shape_whole s) t (leaf n)) o c fs w.3 k (difference_chain (shape_whole s) t n q (minus_of t.kind b.0) w.2 b.1)
+      (subst (λ ds. IsTrue (are_many ds)) (sym i) y) (ap is_full i ∙ f) rest
+      ∙ ap (λ ds. m.run rest (have fs (matrix o (first_of (shape_whole s)) ds c))) i)
+      (reach_cells m cells o (first_of (shape_whole s)) (with_cell (cells_of (shape_whole s)) None (ending (unary t) (leaf n))) c fs w.3 k g rest
+      ∙ ap (λ ds. m.run rest (have fs (matrix o (first_of (shape_whole s)) ds c))) j)
   reach_chain m (cell (bracket grouped p none (just x) z) cells) s o c fs w k q y f rest =
       let gs = fixed (in_bracket itemed o none) ∷ fs in
       let a = reach m 1 x (fixed (in_bracket (called (last_of s)) p none) ∷ frames_of s (fixed (in_bracket itemed o none) ∷ fs)) w.0.3 (no_sign true false 1 x w.0.3 (omega arith)) (omega arith) (z ∷ put_cells cells (c ∷ rest)) in
       let j : joined (cells_of (shape_whole (with_call s p x z))) cells ≡ joined (cells_of (shape_whole s)) (cell (bracket grouped p none (just x) z) cells) =
-          ap (λ ds. joined ds cells) (call_cells s p x z) ∙ joined_cell (cells_of (shape_whole s)) (bracket grouped p none (just x) z) cells in
+      ap (λ ds. joined ds cells) (call_cells s p x z) ∙ joined_cell (cells_of (shape_whole s)) (bracket grouped p none (just x) z) cells in
       at_have m OpenParen p (frames_of s (fixed (in_bracket itemed o none) ∷ fs)) (last_of s) (put x (z ∷ put_cells cells (c ∷ rest))) (want (fixed (in_bracket (called (last_of s)) p none) ∷ frames_of s (fixed (in_bracket itemed o none) ∷ fs))) w.0.1 refl
       ∙ ends m 1 (in_bracket (called (last_of s)) p none) (frames_of s (fixed (in_bracket itemed o none) ∷ fs)) x z (put_cells cells (c ∷ rest))
-          (have (frames_of s (fixed (in_bracket itemed o none) ∷ fs)) (bracket (called (last_of s)) p none (just x) z)) a (ap is_ender w.0.4 ∙ closer_ends grouped)
-          (close_steps (called (last_of s)) p none z (frames_of s (fixed (in_bracket itemed o none) ∷ fs)) x w.0.4 refl w.0.6)
+      (have (frames_of s (fixed (in_bracket itemed o none) ∷ fs)) (bracket (called (last_of s)) p none (just x) z)) a (ap is_ender w.0.4 ∙ closer_ends grouped)
+      (close_steps (called (last_of s)) p none z (frames_of s (fixed (in_bracket itemed o none) ∷ fs)) x w.0.4 refl w.0.6)
       ∙ call_runs m s p x z (fixed (in_bracket itemed o none) ∷ fs) (put_cells cells (c ∷ rest))
       ∙ reach_chain m cells (with_call s p x z) o c fs w.3 k (call_chain s p x z q w.2 (level_plain true false 1 x (omega arith) w.0.3)) (subst (λ ds. IsTrue (are_many ds)) (sym j) y) (ap is_full j ∙ f) rest
       ∙ ap (λ a. m.run rest (have fs (matrix o a (joined (cells_of (shape_whole (with_call s p x z))) cells) c))) (call_first s p x z)
@@ -365,7 +383,7 @@ mutual
       let g : is_full (joined (with_cell (cells_of (shape_whole s)) (Some t) x) cells) ≡ true = ap is_full j ∙ f in
       first_row_runs m s o t fs (put x (put_cells cells (c ∷ rest))) w.0 q (prefix_goes (cells_of (shape_whole s)) t x cells f)
       ∙ reach_atom m x (rows o (first_of (shape_whole s)) (cells_of (shape_whole s)) (Some t)) fs w.1 w.2
-          (row_fits o (first_of (shape_whole s)) (cells_of (shape_whole s)) t x w.2 (prefix_begun (with_cell (cells_of (shape_whole s)) (Some t) x) cells g)) (put_cells cells (c ∷ rest))
+      (row_fits o (first_of (shape_whole s)) (cells_of (shape_whole s)) t x w.2 (prefix_begun (with_cell (cells_of (shape_whole s)) (Some t) x) cells g)) (put_cells cells (c ∷ rest))
       ∙ reach_cells m cells o (first_of (shape_whole s)) (with_cell (cells_of (shape_whole s)) (Some t) x) c fs w.3 k g rest
       ∙ ap (λ ds. m.run rest (have fs (matrix o (first_of (shape_whole s)) ds c))) j
 
@@ -411,7 +429,7 @@ mutual
       let more = v ∷ j ∷ put y (put_generators gens (c ∷ rest)) in
       let r = reach m 1 x (fixed (in_generator o e ds t n i) ∷ fs) w.3 (no_sign true false 1 x w.3 (omega arith)) (omega arith) (u ∷ more) in
       generator_runs m o e ds t n i x fs u more (await fs (generator_name o e (with_generator ds t n i x) u)) w.1 w.2 r (ap is_ender w.4.0 ∙ comma_ends)
-        (ap (λ k. generator_step o e ds t n i k u fs x) w.4.0 ∙ if_some (nat_le (count ds) 1) (await fs (generator_name o e (with_generator ds t n i x) u)) (test_le (count ds) 1 (omega arith)))
+      (ap (λ k. generator_step o e ds t n i k u fs x) w.4.0 ∙ if_some (nat_le (count ds) 1) (await fs (generator_name o e (with_generator ds t n i x) u)) (test_le (count ds) 1 (omega arith)))
       ∙ reach_generators m (generator u v j y gens) Comma o e (with_generator ds t n i x) c fs w.4 (omega (arith, count_with_generator ds t n i x)) z rest
       ∙ ap (λ gs. m.run rest (have fs (comprehension o e gs c))) (chained_more ds t n i x (generator u v j y gens))
 
@@ -420,7 +438,7 @@ mutual
   reach_items m none b o ds fs w rest = ap (λ x. m.run rest (want (fixed (in_bracket b o x) ∷ fs))) (sym (after_none ds))
   reach_items m (more e t es) b o ds fs w rest =
       item_runs m e b o ds fs w.0 t (separator_ends b t.kind w.1) (want (fixed (in_bracket b o (with_item ds e t)) ∷ fs)) (item_steps b o ds t fs e w.1 w.2) (put_items es rest)
-        (λ g. reach m (item_level b) e (fixed (in_bracket b o ds) ∷ fs) w.0 g (omega arith) (t ∷ put_items es rest))
+      (λ g. reach m (item_level b) e (fixed (in_bracket b o ds) ∷ fs) w.0 g (omega arith) (t ∷ put_items es rest))
       ∙ reach_items m es b o (with_item ds e t) fs w.3 rest
       ∙ ap (λ x. m.run rest (want (fixed (in_bracket b o x) ∷ fs))) (after_more ds e t es)
 
@@ -429,4 +447,4 @@ mutual
   reach_last m nothing b o es c fs w k h g rest = m.goes c rest (want (fixed (in_bracket b o es) ∷ fs)) (have fs (bracket b o es nothing c)) (empty_steps b o es c fs k h)
   reach_last m (just e) b o es c fs w k h g rest =
       item_runs m e b o es fs w c (ap is_ender k ∙ closer_ends b) (have fs (bracket b o es (just e) c)) (close_steps b o es c fs e k h g) rest
-        (λ g. reach m (item_level b) e (fixed (in_bracket b o es) ∷ fs) w g (omega arith) (c ∷ rest))
+      (λ g. reach m (item_level b) e (fixed (in_bracket b o es) ∷ fs) w g (omega arith) (c ∷ rest))

@@ -28,23 +28,27 @@ front_unlimited ts p = (p.0, p.1, p.2.0)
 -- the token at k has no place
 pub misplaced_inside : (ts : List Token) (k : ℕ) (c : Config) → k < length ts → run (take k ts) start ≡ Some c → needs c ≤ limit → run (take (k + 1) ts) start ≡ None → IsMisplacedAt ts k
 misplaced_inside ts k c h r n e = record {
-    refused = record {
-      inside = omega arith;
-      before = viable_within (take k ts) c r n;
-      after = λ _ p. stuck (take (k + 1) ts) e (front_unlimited (take (k + 1) ts) p);
-      no_script = λ s w. stuck (take (k + 1) ts) e (front_unlimited (take (k + 1) ts) (front_of ts (k + 1) s w)) };
-    unlimited = λ _. stuck (take (k + 1) ts) e }
+  refused = record {
+    inside = omega arith;
+    before = viable_within (take k ts) c r n;
+    after = λ _ p. stuck (take (k + 1) ts) e (front_unlimited (take (k + 1) ts) p);
+    no_script = λ s w. stuck (take (k + 1) ts) e (front_unlimited (take (k + 1) ts) (front_of ts (k + 1) s w));
+  };
+  unlimited = λ _. stuck (take (k + 1) ts) e;
+}
 
 -- the token at k nests too deep
 pub deep_inside : (ts : List Token) (k : ℕ) (c d : Config) → k < length ts → run (take k ts) start ≡ Some c → needs c ≤ limit → run (take (k + 1) ts) start ≡ Some d → limit < needs d → IsTooDeepAt ts k
 deep_inside ts k c d h r n e m = record {
-    refused = record {
-      inside = omega arith;
-      before = viable_within (take k ts) c r n;
-      after = λ _. too_deep (take (k + 1) ts) d e m;
-      no_script = λ s w. too_deep (take (k + 1) ts) d e m (front_of ts (k + 1) s w) };
-    there = h;
-    unlimited = viable (take (k + 1) ts) d e }
+  refused = record {
+    inside = omega arith;
+    before = viable_within (take k ts) c r n;
+    after = λ _. too_deep (take (k + 1) ts) d e m;
+    no_script = λ s w. too_deep (take (k + 1) ts) d e m (front_of ts (k + 1) s w);
+  };
+  there = h;
+  unlimited = viable (take (k + 1) ts) d e;
+}
 
 run_all : (ts : List Token) (k : ℕ) (c : Config) → length ts ≤ k → run (take k ts) start ≡ Some c → run ts start ≡ Some c
 run_all ts k c h r = ap (λ us. run us start) (sym (take_all k ts h)) ∙ r
@@ -69,12 +73,14 @@ no_end ts c s r f w =
 -- the script may not end there
 pub misplaced_end : (ts : List Token) (k : ℕ) (c : Config) → length ts ≤ k → run (take k ts) start ≡ Some c → needs c ≤ limit → finish c ≡ None → IsMisplacedAt ts (length ts)
 misplaced_end ts k c h r n f = record {
-    refused = record {
-      inside = omega arith;
-      before = viable_within (take (length ts) ts) c (ap (λ us. run us start) (take_all (length ts) ts (omega arith)) ∙ run_all ts k c h r) n;
-      after = λ g. absurd (omega arith);
-      no_script = λ s w. no_end ts c s (run_all ts k c h r) f w.0 };
-    unlimited = λ g. absurd (omega arith) }
+  refused = record {
+    inside = omega arith;
+    before = viable_within (take (length ts) ts) c (ap (λ us. run us start) (take_all (length ts) ts (omega arith)) ∙ run_all ts k c h r) n;
+    after = λ g. absurd (omega arith);
+    no_script = λ s w. no_end ts c s (run_all ts k c h r) f w.0;
+  };
+  unlimited = λ g. absurd (omega arith);
+}
 
 -- a refusal within the text leaves no script
 pub refused_no_script : (ts : List Token) (k : ℕ) → IsRefusedAt ts k → (s : Block) → SpellsWithin ts s → ⊥

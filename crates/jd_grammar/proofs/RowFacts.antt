@@ -84,7 +84,7 @@ same_begun cells q a b =
     ap (λ f. nat_le (last_width 1 (with_cell cells q a)) f && nat_le (count_cells (with_cell cells q a) + 1 + f) (most_atoms + last_width 1 (with_cell cells q a))) (same_first 1 cells q a b)
     ∙ ap (λ l. nat_le l (first_width 1 (with_cell cells q b)) && nat_le (count_cells (with_cell cells q a) + 1 + first_width 1 (with_cell cells q b)) (most_atoms + l)) (same_last 1 cells q a b)
     ∙ ap (λ c. nat_le (last_width 1 (with_cell cells q b)) (first_width 1 (with_cell cells q b)) && nat_le (c + 1 + first_width 1 (with_cell cells q b)) (most_atoms + last_width 1 (with_cell cells q b)))
-        (count_with cells q a ∙ sym (count_with cells q b))
+    (count_with cells q a ∙ sym (count_with cells q b))
 
 pub go_begun : (cells : Cells) → may_go_on cells ≡ true → are_begun cells ≡ true
 go_begun cells h =
@@ -92,8 +92,8 @@ go_begun cells h =
     let e : last_width 1 cells ≡ first_width 1 cells = eq_of (last_width 1 cells) (first_width 1 cells) c.0 in
     let l : count_cells cells + 1 + first_width 1 cells ≤ 262144 = le_of (count_cells cells + 1 + first_width 1 cells) most_atoms c.1 in
     and_true (nat_le (last_width 1 cells) (first_width 1 cells)) (nat_le (count_cells cells + 1 + first_width 1 cells) (most_atoms + last_width 1 cells))
-      (test_le (last_width 1 cells) (first_width 1 cells) (omega (arith, e)))
-      (test_le (count_cells cells + 1 + first_width 1 cells) (most_atoms + last_width 1 cells) (omega (arith, l)))
+    (test_le (last_width 1 cells) (first_width 1 cells) (omega (arith, e)))
+    (test_le (count_cells cells + 1 + first_width 1 cells) (most_atoms + last_width 1 cells) (omega (arith, l)))
 
 -- ---- an expression is one row
 
@@ -202,7 +202,7 @@ begun_of cells h k = and_true (nat_le (last_width 1 cells) (first_width 1 cells)
 
 pub prefix_begun : (cells ds : Cells) → is_full (joined cells ds) ≡ true → are_begun cells ≡ true
 prefix_begun cells ds h = elim (are_single cells) as (λ b. are_single cells ≡ b → are_begun cells ≡ true) [
-    true ↦ λ s. (let e = single_width 1 cells s in begun_of cells (omega (arith, e)) (omega (arith, e, (whole_of (joined cells ds) h).few, count_joined cells ds)))
+  | true ↦ λ s. (let e = single_width 1 cells s in begun_of cells (omega (arith, e)) (omega (arith, e, (whole_of (joined cells ds) h).few, count_joined cells ds)))
   | false ↦ λ s. (
       let w = whole_of (joined cells ds) h in
       let f = first_joined 1 cells ds s in
@@ -211,12 +211,14 @@ prefix_begun cells ds h = elim (are_single cells) as (λ b. are_single cells ≡
       let a = fill_le (first_width 1 (joined cells ds)) (last_width 1 cells) ds e l in
       let b = fill_ge (first_width 1 (joined cells ds)) (last_width 1 cells) ds e l in
       let c = count_joined cells ds in
-      begun_of cells (omega (arith, a, f)) (omega (arith, b, c, f, w.few))) ] refl
+      begun_of cells (omega (arith, a, f)) (omega (arith, b, c, f, w.few)))
+] refl
 
 first_before : (cells : Cells) (t : Token) (x : Syntax) (ds : Cells) → first_width 1 (joined cells (row t x ds)) ≡ first_width 1 cells
 first_before cells t x ds = elim (are_single cells) as (λ b. are_single cells ≡ b → first_width 1 (joined cells (row t x ds)) ≡ first_width 1 cells) [
-    true ↦ λ s. first_single 1 cells (row t x ds) s
-  | false ↦ λ s. first_joined 1 cells (row t x ds) s ] refl
+  | true ↦ λ s. first_single 1 cells (row t x ds) s
+  | false ↦ λ s. first_joined 1 cells (row t x ds) s
+] refl
 
 pub prefix_goes : (cells : Cells) (t : Token) (x : Syntax) (ds : Cells) → is_full (joined cells (row t x ds)) ≡ true → may_go_on cells ≡ true
 prefix_goes cells t x ds h =
@@ -229,8 +231,8 @@ prefix_goes cells t x ds h =
     let b = fill_ge (first_width 1 (joined cells (row t x ds))) 1 ds e.1 l in
     let c = count_joined cells (row t x ds) in
     and_true (nat_eq (last_width 1 cells) (first_width 1 cells)) (nat_le (count_cells cells + 1 + first_width 1 cells) most_atoms)
-      (test_eq (last_width 1 cells) (first_width 1 cells) (omega (arith, q, f)))
-      (test_le (count_cells cells + 1 + first_width 1 cells) most_atoms (omega (arith, b, c, f, w.few)))
+    (test_eq (last_width 1 cells) (first_width 1 cells) (omega (arith, q, f)))
+    (test_le (count_cells cells + 1 + first_width 1 cells) most_atoms (omega (arith, b, c, f, w.few)))
 
 -- ---- rows that are filled
 
@@ -252,8 +254,9 @@ full_of cells e l c = and_true (are_even (first_width 1 cells) 1 cells) (nat_eq 
 
 wants_row : (n : ℕ) (cells : Cells) → last_width 1 cells + (n + 1) ≡ first_width 1 cells → are_single cells ≡ false
 wants_row n cells h = elim (are_single cells) as (λ b. are_single cells ≡ b → b ≡ false) [
-    true ↦ λ s. absurd (omega (arith, h, single_width 1 cells s))
-  | false ↦ λ s. refl ] refl
+  | true ↦ λ s. absurd (omega (arith, h, single_width 1 cells s))
+  | false ↦ λ s. refl
+] refl
 
 fill_by : (n : ℕ) (cells : Cells) → are_even (first_width 1 cells) 1 cells ≡ true → last_width 1 cells + n ≡ first_width 1 cells → count_cells cells + 1 + n ≤ 262144 → is_full (fill n cells) ≡ true
 fill_by zero cells e l c = full_of cells e (omega (arith, l)) (omega (arith, c))
@@ -261,8 +264,8 @@ fill_by (suc n) cells e l c =
     let s = wants_row n cells (omega (arith, l)) in
     let f = first_later 1 cells (leaf zero_token) s in
     fill_by n (with_cell cells None (leaf zero_token))
-      (ap (λ w. are_even w 1 (with_cell cells None (leaf zero_token))) f ∙ keep_even (first_width 1 cells) 1 cells (leaf zero_token) ∙ e)
-      (omega (arith, f, l, last_cell 1 cells (leaf zero_token))) (omega (arith, c, count_with cells None (leaf zero_token)))
+    (ap (λ w. are_even w 1 (with_cell cells None (leaf zero_token))) f ∙ keep_even (first_width 1 cells) 1 cells (leaf zero_token) ∙ e)
+    (omega (arith, f, l, last_cell 1 cells (leaf zero_token))) (omega (arith, c, count_with cells None (leaf zero_token)))
 
 pub fill_full : (cells : Cells) → are_even (first_width 1 cells) 1 cells ≡ true → are_begun cells ≡ true → is_full (fill (missing cells) cells) ≡ true
 fill_full cells e b =
@@ -282,7 +285,7 @@ go_on_begun cells t a h =
     let p = first_ge 1 cells in
     begun_of (with_cell cells (Some t) a) (omega (arith, f, l, p)) (omega (arith, f, l, n, k))
   where
-  first_ge : (n : ℕ) (cells : Cells) → n ≤ first_width n cells
-  first_ge n no_cells = omega arith
-  first_ge n (cell b cells) = omega (arith, first_ge (n + 1) cells)
-  first_ge n (row u b cells) = omega arith
+    first_ge : (n : ℕ) (cells : Cells) → n ≤ first_width n cells
+    first_ge n no_cells = omega arith
+    first_ge n (cell b cells) = omega (arith, first_ge (n + 1) cells)
+    first_ge n (row u b cells) = omega arith

@@ -115,9 +115,11 @@ leaf_atom _ b w h = cc
 
 pub split : (e : Syntax) (r g : Bool) (m : ℕ) → is_chain e ≡ true → IsAt r g m e → IsSplit g e
 split (leaf t) r g m h w = record {
-    first = w;
-    atom = λ z. leaf_atom t.kind t.spaced (subst (λ b. IsTrue (if is_leaf t.kind then true else b && is_least t.kind t.spaced)) z w) h;
-    cells = tt; tokens = λ rest. refl }
+  first = w;
+  atom = λ z. leaf_atom t.kind t.spaced (subst (λ b. IsTrue (if is_leaf t.kind then true else b && is_least t.kind t.spaced)) z w) h;
+  cells = tt;
+  tokens = λ rest. refl;
+}
 split (ending (unary t) e) r g m h w =
     let b = both (is_minus t.kind) (begins_tight e && is_chain e) h in
     let c = both (begins_tight e) (is_chain e) b.1 in
@@ -134,11 +136,13 @@ split (ending (binary l t) e) r g m h w =
     let n = tight_first t e (minus_of t.kind d.0) c.0 c.1 in
     let a = ending (unary t) (first_of e) in
     record {
-      first = p.first; atom = p.atom;
+      first = p.first;
+      atom = p.atom;
       cells = are_joined (with_cell (cells_of l) None (ending (unary t) (first_of e))) (cells_of e) (are_with_cell (cells_of l) None (ending (unary t) (first_of e)) p.cells n.negated n.atom d.1) v.cells;
       tokens = λ rest. p.tokens (t ∷ put e rest) ∙ ap (λ ts. put (first_of l) (put_cells (cells_of l) (t ∷ ts))) (v.tokens rest)
           ∙ ap (put (first_of l)) (sym (put_with_cell (cells_of l) None (ending (unary t) (first_of e)) (put_cells (cells_of e) rest)))
-          ∙ ap (put (first_of l)) (sym (put_joined (with_cell (cells_of l) None (ending (unary t) (first_of e))) (cells_of e) rest)) }
+          ∙ ap (put (first_of l)) (sym (put_joined (with_cell (cells_of l) None (ending (unary t) (first_of e))) (cells_of e) rest));
+    }
 split (bracket grouped o none (just x) c) r g m h w = record { first = w; atom = λ z. refl; cells = tt; tokens = λ rest. refl }
 split (bracket (called f) o none (just x) c) r g m h w =
     let b = both (o.spaced && is_plain x) (is_chain f) h in
@@ -146,9 +150,11 @@ split (bracket (called f) o none (just x) c) r g m h w =
     let v = split f r g 10 b.1 w.0 in
     let u = plain_level true false 0 x d.1 w.3 in
     record {
-      first = weaken true g 9 9 (first_of f) (omega arith) v.first; atom = v.atom;
+      first = weaken true g 9 9 (first_of f) (omega arith) v.first;
+      atom = v.atom;
       cells = are_with_cell (cells_of f) None (bracket grouped o none (just x) c) v.cells (tt, w.1, tt, u, w.4, refl, touches_of true false 1 x c u (omega arith)) refl d.0;
-      tokens = λ rest. v.tokens (o ∷ put x (c ∷ rest)) ∙ ap (put (first_of f)) (sym (put_with_cell (cells_of f) None (bracket grouped o none (just x) c) rest)) }
+      tokens = λ rest. v.tokens (o ∷ put x (c ∷ rest)) ∙ ap (put (first_of f)) (sym (put_with_cell (cells_of f) None (bracket grouped o none (just x) c) rest));
+    }
 split (bracket grouped o none nothing c) r g m h w = cc
 split (bracket grouped o (more _ _ _) x c) r g m h w = cc
 split (bracket (called f) o none nothing c) r g m h w = cc

@@ -124,7 +124,7 @@ call_chain (difference l t x) p y z c h g =
     let b = both (begins_tight x && is_chain x) (is_chain l) a.1 in
     let d = both (begins_tight x) (is_chain x) b.0 in
     and_true (is_minus t.kind && t.spaced) ((begins_tight x && is_chain (bracket (called x) p none (just y) z)) && is_chain l) a.0
-      (and_true (begins_tight x && is_chain (bracket (called x) p none (just y) z)) (is_chain l) (and_true (begins_tight x) (is_chain (bracket (called x) p none (just y) z)) d.0 (called_chain x y p z h g d.1)) b.1)
+    (and_true (begins_tight x && is_chain (bracket (called x) p none (just y) z)) (is_chain l) (and_true (begins_tight x) (is_chain (bracket (called x) p none (just y) z)) d.0 (called_chain x y p z h g d.1)) b.1)
 
 pub call_first : (s : Shape) (p : Token) (y : Syntax) (z : Token) → first_of (whole (with_call s p y z)) ≡ first_of (whole s)
 call_first (bare x) p y z = refl
@@ -145,13 +145,13 @@ call_runs m (difference l t x) p y z fs rest = refl
 pub tight_chain : (n : Token) → is_tight n ≡ true → is_chain (leaf n) ≡ true
 tight_chain n h = at n.kind n.spaced h
   where
-  at : (k : Kind) (b : Bool) → (if b then false else (if is_number k then true else is_least k b)) ≡ true → (if is_number k then true else (if is_name k then true else is_least k b)) ≡ true
-  at (Number n) b h = refl
-  at (Name n) b h = refl
-  at (Wide g) false h = h
-  at (Wide g) true h = cc
-  at _ true h = cc
-  at _ false h = cc
+    at : (k : Kind) (b : Bool) → (if b then false else (if is_number k then true else is_least k b)) ≡ true → (if is_number k then true else (if is_name k then true else is_least k b)) ≡ true
+    at (Number n) b h = refl
+    at (Name n) b h = refl
+    at (Wide g) false h = h
+    at (Wide g) true h = cc
+    at _ true h = cc
+    at _ false h = cc
 
 pub minus_chain : (t n : Token) → t.kind ≡ Minus → is_tight n ≡ true → is_chain (ending (unary t) (leaf n)) ≡ true
 minus_chain t n k h = and_true (is_minus t.kind) (is_tight n && is_chain (leaf n)) (ap is_minus k) (and_true (is_tight n) (is_chain (leaf n)) h (tight_chain n h))
@@ -190,21 +190,21 @@ pub row_end_runs : (m : Follows) (s : Shape) (o c : Token) (fs : List Frame) (re
     → m.run (c ∷ rest) (have (frames_of s (fixed (in_bracket itemed o none) ∷ fs)) (last_of s)) ≡ m.run rest (have fs (matrix o (first_of (whole s)) (cells_of (whole s)) c))
 row_end_runs m s o c fs rest k q y f =
     m.goes c rest (have (frames_of s (fixed (in_bracket itemed o none) ∷ fs)) (last_of s)) (have fs (matrix o (first_of (whole s)) (cells_of (whole s)) c))
-      (ap (λ x. have_step x c (frames_of s (fixed (in_bracket itemed o none) ∷ fs)) (last_of s)) k
-        ∙ ap (at_end CloseBracket c) (shape_closes 0 s o fs (omega arith) q)
-        ∙ ap (λ b. if b then (if not (is_row (whole s)) then Some (have fs (bracket itemed o none (just (whole s)) c)) else row_end o c fs (whole s)) else None) (and_true (is_closer itemed c.kind) (touches (whole s) c) (ap (is_closer itemed) k) (chain_touches (whole s) c q))
-        ∙ ap (λ b. if not b then Some (have fs (bracket itemed o none (just (whole s)) c)) else row_end o c fs (whole s)) (chain_row (whole s) q y)
-        ∙ if_some (is_full (cells_of (whole s))) (have fs (matrix o (first_of (whole s)) (cells_of (whole s)) c)) f)
+    (ap (λ x. have_step x c (frames_of s (fixed (in_bracket itemed o none) ∷ fs)) (last_of s)) k
+    ∙ ap (at_end CloseBracket c) (shape_closes 0 s o fs (omega arith) q)
+    ∙ ap (λ b. if b then (if not (is_row (whole s)) then Some (have fs (bracket itemed o none (just (whole s)) c)) else row_end o c fs (whole s)) else None) (and_true (is_closer itemed c.kind) (touches (whole s) c) (ap (is_closer itemed) k) (chain_touches (whole s) c q))
+    ∙ ap (λ b. if not b then Some (have fs (bracket itemed o none (just (whole s)) c)) else row_end o c fs (whole s)) (chain_row (whole s) q y)
+    ∙ if_some (is_full (cells_of (whole s))) (have fs (matrix o (first_of (whole s)) (cells_of (whole s)) c)) f)
 
 -- at a second atom of one token
 second_at : (k : Kind) (s : Shape) (o t : Token) (fs : List Frame) → (if is_number k then true else is_name k) ≡ true → is_chain (whole s) ≡ true → t.spaced ≡ true → are_begun (with_cell (cells_of (whole s)) None (leaf t)) ≡ true
     → have_step k t (frames_of s (fixed (in_bracket itemed o none) ∷ fs)) (last_of s) ≡ Some (await fs (atoms (rows o (first_of (whole s)) (with_cell (cells_of (whole s)) None (leaf t)) None)))
 second_at (Number n) s o t fs h q z g = ap (at_end (Number n) t) (shape_closes 0 s o fs (omega arith) q)
     ∙ if_some ((t.spaced && is_chain (whole s)) && are_begun (with_cell (cells_of (whole s)) None (leaf t))) (await fs (atoms (rows o (first_of (whole s)) (with_cell (cells_of (whole s)) None (leaf t)) None)))
-        (and_true (t.spaced && is_chain (whole s)) (are_begun (with_cell (cells_of (whole s)) None (leaf t))) (and_true t.spaced (is_chain (whole s)) z q) g)
+    (and_true (t.spaced && is_chain (whole s)) (are_begun (with_cell (cells_of (whole s)) None (leaf t))) (and_true t.spaced (is_chain (whole s)) z q) g)
 second_at (Name n) s o t fs h q z g = ap (at_end (Name n) t) (shape_closes 0 s o fs (omega arith) q)
     ∙ if_some ((t.spaced && is_chain (whole s)) && are_begun (with_cell (cells_of (whole s)) None (leaf t))) (await fs (atoms (rows o (first_of (whole s)) (with_cell (cells_of (whole s)) None (leaf t)) None)))
-        (and_true (t.spaced && is_chain (whole s)) (are_begun (with_cell (cells_of (whole s)) None (leaf t))) (and_true t.spaced (is_chain (whole s)) z q) g)
+    (and_true (t.spaced && is_chain (whole s)) (are_begun (with_cell (cells_of (whole s)) None (leaf t))) (and_true t.spaced (is_chain (whole s)) z q) g)
 second_at _ s o t fs h q z g = cc
 
 pub second_runs : (m : Follows) (s : Shape) (o t : Token) (fs : List Frame) (rest : List Token) → is_atom (leaf t) ≡ true → is_chain (whole s) ≡ true → t.spaced ≡ true → are_begun (with_cell (cells_of (whole s)) None (leaf t)) ≡ true
@@ -216,16 +216,16 @@ pub first_row_runs : (m : Follows) (s : Shape) (o t : Token) (fs : List Frame) (
     → m.run (t ∷ rest) (have (frames_of s (fixed (in_bracket itemed o none) ∷ fs)) (last_of s)) ≡ m.run rest (await fs (atoms (rows o (first_of (whole s)) (cells_of (whole s)) (Some t))))
 first_row_runs m s o t fs rest k q g = m.goes t rest (have (frames_of s (fixed (in_bracket itemed o none) ∷ fs)) (last_of s)) (await fs (atoms (rows o (first_of (whole s)) (cells_of (whole s)) (Some t))))
     (ap (λ x. have_step x t (frames_of s (fixed (in_bracket itemed o none) ∷ fs)) (last_of s)) k
-      ∙ ap (at_end Semicolon t) (shape_closes 0 s o fs (omega arith) q)
-      ∙ if_some (is_chain (whole s) && may_go_on (cells_of (whole s))) (await fs (atoms (rows o (first_of (whole s)) (cells_of (whole s)) (Some t)))) (and_true (is_chain (whole s)) (may_go_on (cells_of (whole s))) q g))
+    ∙ ap (at_end Semicolon t) (shape_closes 0 s o fs (omega arith) q)
+    ∙ if_some (is_chain (whole s) && may_go_on (cells_of (whole s))) (await fs (atoms (rows o (first_of (whole s)) (cells_of (whole s)) (Some t)))) (and_true (is_chain (whole s)) (may_go_on (cells_of (whole s))) q g))
 
 -- a `-` is read as a difference
 pub minus_runs : (m : Follows) (s : Shape) (o t : Token) (fs : List Frame) (rest : List Token) → t.kind ≡ Minus → is_chain (whole s) ≡ true
     → m.run (t ∷ rest) (have (frames_of s (fixed (in_bracket itemed o none) ∷ fs)) (last_of s)) ≡ m.run rest (want (open_end (binary (whole s) t) ∷ (fixed (in_bracket itemed o none) ∷ fs)))
 minus_runs m s o t fs rest k q = m.goes t rest (have (frames_of s (fixed (in_bracket itemed o none) ∷ fs)) (last_of s)) (want (open_end (binary (whole s) t) ∷ (fixed (in_bracket itemed o none) ∷ fs)))
     (ap (λ x. have_step x t (frames_of s (fixed (in_bracket itemed o none) ∷ fs)) (last_of s)) k
-      ∙ ap (at_binary t) (shape_closes 7 s o fs (omega arith) q)
-      ∙ ap (λ x. if nat_le 1 (strength x) then Some (want (open_end (binary (whole s) t) ∷ (fixed (in_bracket itemed o none) ∷ fs))) else None) k)
+    ∙ ap (at_binary t) (shape_closes 7 s o fs (omega arith) q)
+    ∙ ap (λ x. if nat_le 1 (strength x) then Some (want (open_end (binary (whole s) t) ∷ (fixed (in_bracket itemed o none) ∷ fs))) else None) k)
 
 -- behind it a number, or 2^63, which fixes the matrix
 pub number_runs : (m : Follows) (e : Syntax) (o t n : Token) (fs : List Frame) (rest : List Token) (target : m.to) → t.kind ≡ Minus → t.spaced ≡ true → is_chain e ≡ true → is_tight n ≡ true
@@ -234,22 +234,26 @@ pub number_runs : (m : Follows) (e : Syntax) (o t n : Token) (fs : List Frame) (
     → m.run rest (await fs (atoms (rows o (first_of e) (with_cell (cells_of e) None (ending (unary t) (leaf n))) None))) ≡ target
     → m.run (n ∷ rest) (want (open_end (binary e t) ∷ (fixed (in_bracket itemed o none) ∷ fs))) ≡ target
 number_runs m e o t n fs rest target k z c h g a b = elim n.kind as (λ x. n.kind ≡ x → m.run (n ∷ rest) (want gs) ≡ target) [
-    Number v ↦ λ x. m.goes n rest (want gs) (have gs (leaf n)) (ap (λ y. want_step y n gs) x) ∙ a
+  | Number v ↦ λ x. m.goes n rest (want gs) (have gs (leaf n)) (ap (λ y. want_step y n gs) x) ∙ a
   | Wide v ↦ λ x. m.goes n rest (want gs) (await fs (atoms (rows o (first_of e) cs None)))
-        (ap (λ y. want_step y n gs) x ∙ if_some (((is_minus t.kind && t.spaced) && (is_least n.kind n.spaced && is_chain e)) && are_begun cs) (await fs (atoms (rows o (first_of e) cs None)))
-          (and_true ((is_minus t.kind && t.spaced) && (is_least n.kind n.spaced && is_chain e)) (are_begun cs)
-            (and_true (is_minus t.kind && t.spaced) (is_least n.kind n.spaced && is_chain e) (and_true (is_minus t.kind) t.spaced (ap is_minus k) z)
-              (and_true (is_least n.kind n.spaced) (is_chain e) (least v n.kind n.spaced x h) c)) g)) ∙ b
-  | _ ↦ λ x. (let y = sym (ap (λ k. if n.spaced then false else (if is_number k then true else is_least k n.spaced)) x) ∙ h in absurd (never n.spaced y)) ] refl
+      (ap (λ y. want_step y n gs) x ∙ if_some (((is_minus t.kind && t.spaced) && (is_least n.kind n.spaced && is_chain e)) && are_begun cs) (await fs (atoms (rows o (first_of e) cs None)))
+      (and_true ((is_minus t.kind && t.spaced) && (is_least n.kind n.spaced && is_chain e)) (are_begun cs)
+      (and_true (is_minus t.kind && t.spaced) (is_least n.kind n.spaced && is_chain e) (and_true (is_minus t.kind) t.spaced (ap is_minus k) z)
+      (and_true (is_least n.kind n.spaced) (is_chain e) (least v n.kind n.spaced x h) c)) g)) ∙ b
+  | _ ↦ λ x. (let y = sym (ap (λ k. if n.spaced then false else (if is_number k then true else is_least k n.spaced)) x) ∙ h in absurd (never n.spaced y))
+] refl
   where
-  gs : List Frame
-  gs = open_end (binary e t) ∷ (fixed (in_bracket itemed o none) ∷ fs)
-  cs : Cells
-  cs = with_cell (cells_of e) None (ending (unary t) (leaf n))
-  least : (v : Bool) (k : Kind) (b : Bool) → k ≡ Wide v → (if b then false else (if is_number k then true else is_least k b)) ≡ true → is_least k b ≡ true
-  least v (Wide w) false x h = h
-  least v (Wide w) true x h = cc
-  least v _ b x h = cc
-  never : (b : Bool) → (if b then false else false) ≡ true → ⊥
-  never true y = cc
-  never false y = cc
+    gs : List Frame
+    gs = open_end (binary e t) ∷ (fixed (in_bracket itemed o none) ∷ fs)
+
+    cs : Cells
+    cs = with_cell (cells_of e) None (ending (unary t) (leaf n))
+
+    least : (v : Bool) (k : Kind) (b : Bool) → k ≡ Wide v → (if b then false else (if is_number k then true else is_least k b)) ≡ true → is_least k b ≡ true
+    least v (Wide w) false x h = h
+    least v (Wide w) true x h = cc
+    least v _ b x h = cc
+
+    never : (b : Bool) → (if b then false else false) ≡ true → ⊥
+    never true y = cc
+    never false y = cc

@@ -157,8 +157,9 @@ header_may_end (distributed_head g t o op q f n i) c sep = refl
 
 header_ok : (sc : Scope) (x : Before) (h : Header) (s : State) → IsBottom sc (in_header x h) → IsState s → IsEnded sc (at_expression (in_header x h) s) (header_end x h s)
 header_ok sc x h s w v = record {
-    grammar = ((w.0, w.1, (w.2, whole_ok s v, refl)), (tt, tt), header_may_end h (whole s) separator, refl);
-    tokens = λ rest. ap (λ ts. put_before x (put_header h ts)) (whole_put s v (separator ∷ end_token ∷ rest)) }
+  grammar = ((w.0, w.1, (w.2, whole_ok s v, refl)), (tt, tt), header_may_end h (whole s) separator, refl);
+  tokens = λ rest. ap (λ ts. put_before x (put_header h ts)) (whole_put s v (separator ∷ end_token ∷ rest));
+}
 
 expression_ok : (sc : Scope) (b : Bottom) (s : State) → IsBottom sc b → IsState s → IsEnded sc (at_expression b s) (expression_end b s)
 expression_ok sc (in_lead bare) s w v = bare_ok sc s.frames s.now v
@@ -216,8 +217,9 @@ words_ok sc (signature_open o f) w = record { grammar = owned_ok sc o (a_signatu
 words_ok sc (signature_first w f o) v = record { grammar = owned_ok sc w (a_signature f o no_parameters) v.0 (v.1, v.2, tt, refl); tokens = λ rest. owned_put w f o no_parameters rest }
 words_ok sc (signature_next w f o ps) v = record { grammar = owned_ok sc w (a_signature f o ps) v.0.0 (v.0.1, v.0.2, v.1, refl); tokens = λ rest. owned_put w f o ps rest }
 words_ok sc (signature_name w f o ps comma) v = record {
-    grammar = owned_ok sc w (a_signature f o (next ps comma (new_name ps))) v.0.0 (v.0.1, v.0.2, more_parameters ps comma v.1 v.2 v.3, refl);
-    tokens = λ rest. owned_put w f o (next ps comma (new_name ps)) rest }
+  grammar = owned_ok sc w (a_signature f o (next ps comma (new_name ps))) v.0.0 (v.0.1, v.0.2, more_parameters ps comma v.1 v.2 v.3, refl);
+  tokens = λ rest. owned_put w f o (next ps comma (new_name ps)) rest;
+}
 words_ok sc (signature_end every s) v = record { grammar = ((v.0, v.1, v.2, refl), refl); tokens = λ rest. refl }
 words_ok sc (everywhere every) v = record { grammar = (v.0, v.1, refl, refl); tokens = λ rest. refl }
 words_ok sc (everywhere_package every t) v = record { grammar = (v.0, v.1, v.2, refl); tokens = λ rest. refl }

@@ -141,11 +141,11 @@ leave_needs : (ctx : Context) (b : Bool) (h : ℕ) (p : Place) (f : List Outer �
     → NoLess (round_needs ctx.outer ctx.lines b h) (leave ctx p f)
 leave_needs ctx b h p f k s g = on ctx.outer
   where
-  on : (os : List Outer) → NoLess (round_needs os ctx.lines b h) (elim os as (λ _. Option Config) [ [] ↦ None | o ∷ os ↦ f os o.lines o.before o.opening (block ctx.lines p) ])
-  on [] = tt
-  on (o ∷ os) =
-      let i = inner_block ctx.lines b h p k s in
-      g (round_needs (o ∷ os) ctx.lines b h) os o.lines o.before o.opening (block ctx.lines p)
+    on : (os : List Outer) → NoLess (round_needs os ctx.lines b h) (elim os as (λ _. Option Config) [ [] ↦ None | o ∷ os ↦ f os o.lines o.before o.opening (block ctx.lines p) ])
+    on [] = tt
+    on (o ∷ os) =
+        let i = inner_block ctx.lines b h p k s in
+        g (round_needs (o ∷ os) ctx.lines b h) os o.lines o.before o.opening (block ctx.lines p)
         (round_grows os o.lines true (outer_needs o (if has_token ctx.lines b then 1 + max (depth_lines ctx.lines) h else 0)) (outer_needs o (depth_inner (block ctx.lines p))) (omega arith))
 
 end_needs : (t : Token) → LeaveNeeds (end_block t)
@@ -200,24 +200,31 @@ on_needs ctx b h g k = round_grows ctx.outer ctx.lines b h g k
 
 begin_needs : (k : Kind) (t : Token) (ctx : Context) (w : Whole) → WholeNeeds 0 false w → NoLess (round_needs ctx.outer ctx.lines false 0) (begin_step k t ctx w)
 begin_needs k t ctx w v = elim k as (λ k. NoLess (round_needs ctx.outer ctx.lines false 0) (ending_step k t ctx w) → NoLess (round_needs ctx.outer ctx.lines false 0) (begin_step k t ctx w)) [
-    While ↦ λ z. some (1 + max 0 0) | If ↦ λ z. some (1 + max 0 0) | For ↦ λ z. some 1 | Try ↦ λ z. some (1 + max (max 0 0) 0) | DistributedFor ↦ λ z. some 1
+  | While ↦ λ z. some (1 + max 0 0)
+  | If ↦ λ z. some (1 + max 0 0)
+  | For ↦ λ z. some 1
+  | Try ↦ λ z. some (1 + max (max 0 0) 0)
+  | DistributedFor ↦ λ z. some 1
   | Function ↦ λ z. only_needs n (scope ctx.outer).top (go ctx (at_words (function_name None t))) (λ k. some 1)
   | Everywhere ↦ λ z. only_needs n (scope ctx.outer).top (go ctx (at_words (everywhere t))) (λ k. some 0)
   | Using ↦ λ z. only_needs n (scope ctx.outer).top (go ctx (at_words (package_first t))) (λ k. some 0)
   | Return ↦ λ z. only_needs n (scope ctx.outer).function (go ctx (at_expression (in_lead (returned t)) (want []))) (λ k. some 0)
   | Break ↦ λ z. only_needs n (scope ctx.outer).loop (go ctx (complete (alone t))) (λ k. some 0)
   | Continue ↦ λ z. only_needs n (scope ctx.outer).loop (go ctx (complete (alone t))) (λ k. some 0)
-  | _ ↦ λ z. z ] (ending_needs k t ctx false 0 w v)
+  | _ ↦ λ z. z
+] (ending_needs k t ctx false 0 w v)
   where
-  n : ℕ
-  n = round_needs ctx.outer ctx.lines false 0
-  some : (g : ℕ) → round_needs ctx.outer ctx.lines false 0 ≤ round_needs ctx.outer ctx.lines true g
-  some g = on_needs ctx false 0 g (omega arith)
+    n : ℕ
+    n = round_needs ctx.outer ctx.lines false 0
+
+    some : (g : ℕ) → round_needs ctx.outer ctx.lines false 0 ≤ round_needs ctx.outer ctx.lines true g
+    some g = on_needs ctx false 0 g (omega arith)
 
 value_needs : (n q : Token) (k : Kind) (t : Token) (ctx : Context) (w : Whole) → WholeNeeds 1 true w → NoLess (round_needs ctx.outer ctx.lines true 1) (value_step n q k t ctx w)
 value_needs n q k t ctx w v = elim k as (λ k. NoLess (round_needs ctx.outer ctx.lines true 1) (ending_step k t ctx w) → NoLess (round_needs ctx.outer ctx.lines true 1) (value_step n q k t ctx w)) [
-    DistributedFor ↦ λ z. on_needs ctx true 1 2 (omega arith)
-  | _ ↦ λ z. z ] (ending_needs k t ctx true 1 w v)
+  | DistributedFor ↦ λ z. on_needs ctx true 1 2 (omega arith)
+  | _ ↦ λ z. z
+] (ending_needs k t ctx true 1 w v)
 
 -- ---- a definition's head is no deeper than its own parentheses
 
@@ -256,8 +263,12 @@ update_needs t ctx _ = tt
 
 target_needs : (k : Kind) (t : Token) (ctx : Context) (e : Syntax) (w : Whole) → WholeNeeds (0 + height e) true w → NoLess (round_needs ctx.outer ctx.lines true (0 + height e)) (target_step k t ctx e w)
 target_needs k t ctx e w v = elim k as (λ k. NoLess (round_needs ctx.outer ctx.lines true (0 + height e)) (ending_step k t ctx w) → NoLess (round_needs ctx.outer ctx.lines true (0 + height e)) (target_step k t ctx e w)) [
-    Assign ↦ λ z. assign_needs t ctx e | PlusAssign ↦ λ z. update_needs t ctx e | MinusAssign ↦ λ z. update_needs t ctx e | StarAssign ↦ λ z. update_needs t ctx e
-  | _ ↦ λ z. z ] (ending_needs k t ctx true (0 + height e) w v)
+  | Assign ↦ λ z. assign_needs t ctx e
+  | PlusAssign ↦ λ z. update_needs t ctx e
+  | MinusAssign ↦ λ z. update_needs t ctx e
+  | StarAssign ↦ λ z. update_needs t ctx e
+  | _ ↦ λ z. z
+] (ending_needs k t ctx true (0 + height e) w v)
 
 abbrev at_state : Bottom → List Frame → Now → Mode
 at_state b fs n = at_expression b (record { frames = fs; now = n })
@@ -287,34 +298,50 @@ words_needs (distributed_in g d o op c f n) t ctx = only_needs (round_needs ctx.
 words_needs (function_name every f) t ctx = only_needs (round_needs ctx.outer ctx.lines true 1) (is_name t.kind) (go ctx (at_words (signature_open (of_function every f) t))) (λ k. omega arith)
 words_needs (signature_open w f) t ctx = only_needs (round_needs ctx.outer ctx.lines true 1) (is_open t.kind) (go ctx (at_words (signature_first w f t))) (λ k. omega arith)
 words_needs (signature_first w f o) t ctx = elim t.kind as (λ k. NoLess (round_needs ctx.outer ctx.lines true 1) (first_step w f o k t ctx)) [
-    Name n ↦ omega arith | CloseParen ↦ signature_needs w (record { name = f; opens = o; parameters = no_parameters; closes = t }) ctx | _ ↦ tt ]
+  | Name n ↦ omega arith
+  | CloseParen ↦ signature_needs w (record { name = f; opens = o; parameters = no_parameters; closes = t }) ctx
+  | _ ↦ tt
+]
 words_needs (signature_next w f o ps) t ctx = elim t.kind as (λ k. NoLess (round_needs ctx.outer ctx.lines true 1) (next_step w f o ps k t ctx)) [
-    Comma ↦ omega arith | CloseParen ↦ signature_needs w (record { name = f; opens = o; parameters = ps; closes = t }) ctx | _ ↦ tt ]
+  | Comma ↦ omega arith
+  | CloseParen ↦ signature_needs w (record { name = f; opens = o; parameters = ps; closes = t }) ctx
+  | _ ↦ tt
+]
 words_needs (signature_name w f o ps comma) t ctx = only_needs (round_needs ctx.outer ctx.lines true 1) (is_name t.kind && is_fresh_name t.kind ps) (go ctx (at_words (signature_next w f o (next ps comma t)))) (λ k. omega arith)
 words_needs (signature_end every g) t ctx = only_needs (round_needs ctx.outer ctx.lines true 1) (is_assign t.kind) (go ctx (at_expression (in_lead (defined_everywhere every g t)) (want []))) (λ k. omega arith)
 words_needs (everywhere every) t ctx = elim t.kind as (λ k. NoLess (round_needs ctx.outer ctx.lines true 0) (everywhere_step every k t ctx)) [
-    Using ↦ omega arith | Function ↦ on_needs ctx true 0 1 (omega arith) | Name n ↦ on_needs ctx true 0 1 (omega arith) | _ ↦ tt ]
+  | Using ↦ omega arith
+  | Function ↦ on_needs ctx true 0 1 (omega arith)
+  | Name n ↦ on_needs ctx true 0 1 (omega arith)
+  | _ ↦ tt
+]
 words_needs (everywhere_package every u) t ctx = only_needs (round_needs ctx.outer ctx.lines true 0) (is_package t.kind) (go ctx (complete (packages_everywhere every u t))) (λ k. omega arith)
 words_needs (package_first u) t ctx = only_needs (round_needs ctx.outer ctx.lines true 0) (is_package t.kind) (go ctx (complete (packages (using_first u t)))) (λ k. omega arith)
 words_needs (package_next ns comma) t ctx = only_needs (round_needs ctx.outer ctx.lines true 0) (is_package t.kind) (go ctx (complete (packages (using_next ns comma t)))) (λ k. omega arith)
 words_needs (catch_words x q) t ctx = elim t.kind as (λ k. NoLess (round_needs ctx.outer ctx.lines true (1 + height_before x)) (catch_step x q k t ctx)) [
-    Name n ↦ omega arith | Semicolon ↦ caught | LineEnd ↦ caught | _ ↦ tt ]
+  | Name n ↦ omega arith
+  | Semicolon ↦ caught
+  | LineEnd ↦ caught
+  | _ ↦ tt
+]
   where
-  caught : round_needs ctx.outer ctx.lines true (1 + height_before x) ≤ round_needs ctx.outer ctx.lines true (1 + max (max (height_before x) 0) 0)
-  caught = on_needs ctx true (1 + height_before x) (1 + max (max (height_before x) 0) 0) (omega arith)
+    caught : round_needs ctx.outer ctx.lines true (1 + height_before x) ≤ round_needs ctx.outer ctx.lines true (1 + max (max (height_before x) 0) 0)
+    caught = on_needs ctx true (1 + height_before x) (1 + max (max (height_before x) 0) 0) (omega arith)
 words_needs (catch_named x q n) t ctx = only_needs (round_needs ctx.outer ctx.lines true (1 + height_before x)) (is_separator t.kind) (open_block ctx x (catch_name q n t))
     (λ k. on_needs ctx true (1 + height_before x) (1 + max (max (height_before x) 0) 0) (omega arith))
 
 complete_needs : (k : Kind) (t : Token) (ctx : Context) (s : Stmt) → NoLess (round_needs ctx.outer ctx.lines true (depth_stmt s)) (complete_step k t ctx s)
 complete_needs k t ctx s = elim k as (λ k. NoLess (round_needs ctx.outer ctx.lines true (depth_stmt s)) (ending_step k t ctx (a_place (stmt s))) → NoLess (round_needs ctx.outer ctx.lines true (depth_stmt s)) (complete_step k t ctx s)) [
-    Comma ↦ comma s | _ ↦ λ z. z ] (ending_needs k t ctx true (depth_stmt s) (a_place (stmt s)) (omega arith, λ k. refl))
+  | Comma ↦ comma s
+  | _ ↦ λ z. z
+] (ending_needs k t ctx true (depth_stmt s) (a_place (stmt s)) (omega arith, λ k. refl))
   where
-  comma : (s : Stmt) → NoLess (round_needs ctx.outer ctx.lines true (depth_stmt s)) (ending_step Comma t ctx (a_place (stmt s))) → NoLess (round_needs ctx.outer ctx.lines true (depth_stmt s)) (complete_step Comma t ctx s)
-  comma (packages ns) z = omega arith
-  comma (ended l e) z = z
-  comma (alone u) z = z
-  comma (packages_everywhere e u n) z = z
-  comma (blocks p b u) z = z
+    comma : (s : Stmt) → NoLess (round_needs ctx.outer ctx.lines true (depth_stmt s)) (ending_step Comma t ctx (a_place (stmt s))) → NoLess (round_needs ctx.outer ctx.lines true (depth_stmt s)) (complete_step Comma t ctx s)
+    comma (packages ns) z = omega arith
+    comma (ended l e) z = z
+    comma (alone u) z = z
+    comma (packages_everywhere e u n) z = z
+    comma (blocks p b u) z = z
 
 -- ---- a step
 
@@ -330,8 +357,8 @@ begun_mode (in_header x d) s h = refl
 expression_needs : (ctx : Context) (b : Bottom) (s d : State) → least.needs s ≤ least.needs d → is_fresh d.frames d.now ≡ false → needs (go ctx (at_expression b s)) ≤ needs (go ctx (at_expression b d))
 expression_needs ctx b s d h f =
     subst (λ x. needs (go ctx (at_expression b s)) ≤ round_needs ctx.outer ctx.lines x (mode_needs (at_expression b d))) (sym (begun_mode b d f))
-      (on_needs ctx (has_begun (at_expression b s)) (mode_needs (at_expression b s)) (mode_needs (at_expression b d))
-        (omega (arith, below_over b s, over_grows b (least.needs s) (least.needs d) h, over_below b d f)))
+    (on_needs ctx (has_begun (at_expression b s)) (mode_needs (at_expression b s)) (mode_needs (at_expression b d))
+    (omega (arith, below_over b s, over_grows b (least.needs s) (least.needs d) h, over_below b d f)))
 
 either_needs : (t : Token) (ctx : Context) (b : Bottom) (s : State) (d : Option State) → least_needs.NoLess (least.needs s) d → MayStep t s d → NoLess (needs (go ctx (at_expression b s))) (either d t.kind t ctx b s)
 either_needs t ctx b s None h v = statement_needs t.kind t ctx b s.frames s.now
@@ -351,9 +378,9 @@ run_on : (t : Token) (ts : List Token) (c : Config) (n : ℕ) → ((c : Config) 
 run_on t ts c n f None h v = tt
 run_on t ts c n f (Some d) h v = up (run ts d) (f d v.config)
   where
-  up : (r : Option Config) → NoLess (needs d) r → NoLess n r
-  up None u = tt
-  up (Some r) u = omega arith
+    up : (r : Option Config) → NoLess (needs d) r → NoLess n r
+    up None u = tt
+    up (Some r) u = omega arith
 
 pub run_needs : (ts : List Token) (c : Config) → IsConfig c → NoLess (needs c) (run ts c)
 run_needs [] c w = omega arith

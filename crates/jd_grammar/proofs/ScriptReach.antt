@@ -33,18 +33,21 @@ read_ended l e ctx rest w u =
       mode = at_expression (in_lead l) (have r.frames r.operand);
       runs = lead_runs l ctx (put e rest) w ∙ r.runs;
       ends = λ t k. expression_ends t ctx (in_lead l) r.frames r.operand e k c;
-      last = ap (with_expression (in_lead l)) c }
+      last = ap (with_expression (in_lead l)) c;
+    }
 
 read_alone : (t : Token) (ctx : Context) (rest : List Token) → is_alone (scope ctx.outer) t.kind ≡ true → IsRead ctx (stmt (alone t)) rest
 read_alone t ctx rest w = elim t.kind as (λ k. t.kind ≡ k → is_alone (scope ctx.outer) k ≡ true → IsRead ctx (stmt (alone t)) rest) [
-    Return ↦ λ k h. record {
-      mode = at_expression (in_lead (returned t)) (want []);
-      runs = word_runs Return t ctx (at_expression (in_lead (returned t)) (want [])) rest k (only_some (scope ctx.outer).function (go ctx (at_expression (in_lead (returned t)) (want []))) h);
-      ends = λ u e. returned_ends u t ctx e;
-      last = refl }
+  | Return ↦ λ k h. record {
+    mode = at_expression (in_lead (returned t)) (want []);
+    runs = word_runs Return t ctx (at_expression (in_lead (returned t)) (want [])) rest k (only_some (scope ctx.outer).function (go ctx (at_expression (in_lead (returned t)) (want []))) h);
+    ends = λ u e. returned_ends u t ctx e;
+    last = refl;
+  }
   | Break ↦ λ k h. read_complete ctx (alone t) rest (word_runs Break t ctx (complete (alone t)) rest k (only_some (scope ctx.outer).loop (go ctx (complete (alone t))) h))
   | Continue ↦ λ k h. read_complete ctx (alone t) rest (word_runs Continue t ctx (complete (alone t)) rest k (only_some (scope ctx.outer).loop (go ctx (complete (alone t))) h))
-  | _ ↦ λ k h. cc ] refl w
+  | _ ↦ λ k h. cc
+] refl w
 
 -- ---- the openings that a statement begins with
 
@@ -112,13 +115,18 @@ trying_name _ t n sep f = cc
 
 catch_runs : (x : Before) (t sep : Token) (ctx : Context) (rest : List Token) → is_separator sep.kind ≡ true → run (sep ∷ rest) (go ctx (at_words (catch_words x t))) ≡ run rest (open_block ctx x (catch_open t sep))
 catch_runs x t sep ctx rest h = elim sep.kind as (λ k. is_separator k ≡ true → and_then (catch_step x t k sep ctx) (run rest) ≡ run rest (open_block ctx x (catch_open t sep))) [
-    Semicolon ↦ λ h. refl | LineEnd ↦ λ h. refl | _ ↦ λ h. cc ] h
+  | Semicolon ↦ λ h. refl
+  | LineEnd ↦ λ h. refl
+  | _ ↦ λ h. cc
+] h
 
 catch_name_runs : (x : Before) (t n sep : Token) (ctx : Context) (rest : List Token) → is_name n.kind ≡ true → is_separator sep.kind ≡ true
     → run (n ∷ sep ∷ rest) (go ctx (at_words (catch_words x t))) ≡ run rest (open_block ctx x (catch_name t n sep))
 catch_name_runs x t n sep ctx rest a h =
     elim n.kind as (λ k. is_name k ≡ true → and_then (catch_step x t k n ctx) (run (sep ∷ rest)) ≡ run (sep ∷ rest) (go ctx (at_words (catch_named x t n)))) [
-        Name b ↦ λ h. refl | _ ↦ λ h. cc ] a
+      | Name b ↦ λ h. refl
+      | _ ↦ λ h. cc
+    ] a
     ∙ only_runs (is_separator sep.kind) (open_block ctx x (catch_name t n sep)) rest h
 
 -- a place in the block has been read, and what goes on with the statement
@@ -165,10 +173,10 @@ mutual
   read_stmt (blocks (begun x o) (block ms p) t) ctx w rest =
       let r = read_place p (inner ctx.outer ctx.lines x o ms) w.1.1 (t ∷ rest) in
       read_complete ctx (blocks (begun x o) (block ms p) t) rest
-        (read_prior (begun x o) ctx w.0 (put_lines ms (put_place p (t ∷ rest)))
-          ∙ read_lines ms (record { lines = ctx.lines; before = x; opening = o } ∷ ctx.outer) w.1.0 (put_place p (t ∷ rest))
-          ∙ r.runs ∙ place_step End t (inner ctx.outer ctx.lines x o ms) r.mode p rest w.3 (r.ends t (ap is_ending w.3))
-          ∙ only_runs (may_end (role_of o)) (in_outer ctx.outer ctx.lines (complete (blocks (begun x o) (block ms p) t))) rest w.2)
+      (read_prior (begun x o) ctx w.0 (put_lines ms (put_place p (t ∷ rest)))
+      ∙ read_lines ms (record { lines = ctx.lines; before = x; opening = o } ∷ ctx.outer) w.1.0 (put_place p (t ∷ rest))
+      ∙ r.runs ∙ place_step End t (inner ctx.outer ctx.lines x o ms) r.mode p rest w.3 (r.ends t (ap is_ending w.3))
+      ∙ only_runs (may_end (role_of o)) (in_outer ctx.outer ctx.lines (complete (blocks (begun x o) (block ms p) t))) rest w.2)
 
   read_prior : (p : Prior) (ctx : Context) → IsPrior (scope ctx.outer) p → (rest : List Token) → run (put_prior p rest) (go ctx beginning) ≡ run rest (opened p ctx)
   read_prior (begun fresh o) ctx w rest = fresh_runs o ctx rest w.2 w.1

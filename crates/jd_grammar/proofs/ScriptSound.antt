@@ -51,11 +51,13 @@ header_opens r h c t k = k
 separator_ok : (t : Token) (ctx : Context) (m : Mode) (w : Whole) → IsContext ctx → IsTrue (is_separator t.kind) → IsWhole (scope ctx.outer) (put_mode m) w → MayGo t (go ctx m) (separator_step t ctx w)
 separator_ok t ctx m nothing_whole c k v = tt
 separator_ok t ctx m (a_place p) c k v = record {
-    config = record { context = record { outer = c.outer; lines = (c.lines, v.0, k) }; mode = (tt, record { frames = tt; now = tt }) };
-    tokens = λ rest. ap (put_context ctx) (v.1 (t ∷ rest)) }
+  config = record { context = record { outer = c.outer; lines = (c.lines, v.0, k) }; mode = (tt, record { frames = tt; now = tt }) };
+  tokens = λ rest. ap (put_context ctx) (v.1 (t ∷ rest));
+}
 separator_ok t ctx m (a_header x h e) c k v = record {
-    config = record { context = record { outer = (c.lines, v.0, v.1, (v.2, v.3, k), c.outer); lines = tt }; mode = (tt, record { frames = tt; now = tt }) };
-    tokens = λ rest. ap (put_context ctx) (v.4 (t ∷ rest)) }
+  config = record { context = record { outer = (c.lines, v.0, v.1, (v.2, v.3, k), c.outer); lines = tt }; mode = (tt, record { frames = tt; now = tt }) };
+  tokens = λ rest. ap (put_context ctx) (v.4 (t ∷ rest));
+}
 
 -- the innermost block, with what stands before it
 pub record IsLeft (sc : Scope) (ls : Lines) (x : Before) (o : Opening) (b : Block) : Type 0 where
@@ -71,14 +73,16 @@ leave_ok : (t : Token) (ctx : Context) (m : Mode) (p : Place) (f : List Outer �
     → Leaves t (go ctx m) f → MayGo t (go ctx m) (leave ctx p f)
 leave_ok t ctx m p f c v g = on ctx.outer c.outer c.lines v.0 (λ rest. ap (put_context ctx) (v.1 rest))
   where
-  on : (os : List Outer) → AreOuter os → AreLines (scope os) ctx.lines → IsPlace (scope os) p → ((rest : List Token) → put_outer os (put_lines ctx.lines (put_place p rest)) ≡ put_config (go ctx m) rest)
-      → MayGo t (go ctx m) (elim os as (λ _. Option Config) [ [] ↦ None | o ∷ os ↦ f os o.lines o.before o.opening (block ctx.lines p) ])
-  on [] w l q h = tt
-  on (o ∷ os) w l q h = g os o.lines o.before o.opening (block ctx.lines p) w.4 (record { lines = w.0; prior = (w.1, w.2, w.3); inner = (l, q) }) h
+    on : (os : List Outer) → AreOuter os → AreLines (scope os) ctx.lines → IsPlace (scope os) p → ((rest : List Token) → put_outer os (put_lines ctx.lines (put_place p rest)) ≡ put_config (go ctx m) rest)
+        → MayGo t (go ctx m) (elim os as (λ _. Option Config) [ [] ↦ None | o ∷ os ↦ f os o.lines o.before o.opening (block ctx.lines p) ])
+    on [] w l q h = tt
+    on (o ∷ os) w l q h = g os o.lines o.before o.opening (block ctx.lines p) w.4 (record { lines = w.0; prior = (w.1, w.2, w.3); inner = (l, q) }) h
 
 end_ok : (t : Token) (c : Config) → t.kind ≡ End → Leaves t c (end_block t)
 end_ok t c k os ls x o b w v h = may_go_if t c (in_outer os ls (complete (blocks (begun x o) b t))) (may_end (role_of o)) (λ e. record {
-    config = record { context = record { outer = w; lines = v.lines }; mode = (v.prior, v.inner, e, k) }; tokens = λ rest. h (t ∷ rest) })
+  config = record { context = record { outer = w; lines = v.lines }; mode = (v.prior, v.inner, e, k) };
+  tokens = λ rest. h (t ∷ rest);
+})
 
 conditional_elseif : (r : Role) (t : Token) → is_conditional r ≡ true → IsTrue (header_follows r (elseif_head t))
 conditional_elseif conditional t h = refl
@@ -86,7 +90,9 @@ conditional_elseif _ t h = cc
 
 elseif_ok : (t : Token) (c : Config) → t.kind ≡ Elseif → Leaves t c (elseif_block t)
 elseif_ok t c k os ls x o b w v h = may_go_if t c (in_outer os ls (at_expression (in_header (behind (begun x o) b) (elseif_head t)) (want []))) (is_conditional (role_of o)) (λ e. record {
-    config = record { context = record { outer = w; lines = v.lines }; mode = (((v.prior, v.inner), conditional_elseif (role_of o) t e, k), record { frames = tt; now = tt }) }; tokens = λ rest. h (t ∷ rest) })
+  config = record { context = record { outer = w; lines = v.lines }; mode = (((v.prior, v.inner), conditional_elseif (role_of o) t e, k), record { frames = tt; now = tt }) };
+  tokens = λ rest. h (t ∷ rest);
+})
 
 conditional_else : (r : Role) (t : Token) → is_conditional r ≡ true → IsTrue (follows r (else_open t))
 conditional_else conditional t h = refl
@@ -94,11 +100,15 @@ conditional_else _ t h = cc
 
 else_ok : (t : Token) (c : Config) → t.kind ≡ Else → Leaves t c (else_block t)
 else_ok t c k os ls x o b w v h = may_go_if t c (open_block (record { outer = os; lines = ls }) (behind (begun x o) b) (else_open t)) (is_conditional (role_of o)) (λ e. record {
-    config = record { context = record { outer = (v.lines, (v.prior, v.inner), conditional_else (role_of o) t e, k, w); lines = tt }; mode = (tt, record { frames = tt; now = tt }) }; tokens = λ rest. h (t ∷ rest) })
+  config = record { context = record { outer = (v.lines, (v.prior, v.inner), conditional_else (role_of o) t e, k, w); lines = tt }; mode = (tt, record { frames = tt; now = tt }) };
+  tokens = λ rest. h (t ∷ rest);
+})
 
 catch_ok : (t : Token) (c : Config) → t.kind ≡ Catch → Leaves t c (catch_block t)
 catch_ok t c k os ls x o b w v h = may_go_if t c (in_outer os ls (at_words (catch_words (behind (begun x o) b) t))) (is_trying (role_of o)) (λ e. record {
-    config = record { context = record { outer = w; lines = v.lines }; mode = ((v.prior, v.inner), e, k) }; tokens = λ rest. h (t ∷ rest) })
+  config = record { context = record { outer = w; lines = v.lines }; mode = ((v.prior, v.inner), e, k) };
+  tokens = λ rest. h (t ∷ rest);
+})
 
 at_place_ok : (t : Token) (ctx : Context) (m : Mode) (w : Whole) (f : List Outer → Lines → Before → Opening → Block → Option Config) → IsContext ctx → IsWhole (scope ctx.outer) (put_mode m) w
     → Leaves t (go ctx m) f → MayGo t (go ctx m) (at_place w (λ p. leave ctx p f))
@@ -108,13 +118,14 @@ at_place_ok t ctx m (a_place p) f c v g = leave_ok t ctx m p f c v g
 
 ending_ok : (t : Token) (ctx : Context) (m : Mode) (w : Whole) → IsContext ctx → IsWhole (scope ctx.outer) (put_mode m) w → MayGo t (go ctx m) (ending_step t.kind t ctx w)
 ending_ok t ctx m w c v = elim t.kind as (λ k. t.kind ≡ k → MayGo t (go ctx m) (ending_step k t ctx w)) [
-    Semicolon ↦ λ k. separator_ok t ctx m w c (ap is_separator k) v
+  | Semicolon ↦ λ k. separator_ok t ctx m w c (ap is_separator k) v
   | LineEnd ↦ λ k. separator_ok t ctx m w c (ap is_separator k) v
   | End ↦ λ k. at_place_ok t ctx m w (end_block t) c v (end_ok t (go ctx m) k)
   | Elseif ↦ λ k. at_place_ok t ctx m w (elseif_block t) c v (elseif_ok t (go ctx m) k)
   | Else ↦ λ k. at_place_ok t ctx m w (else_block t) c v (else_ok t (go ctx m) k)
   | Catch ↦ λ k. at_place_ok t ctx m w (catch_block t) c v (catch_ok t (go ctx m) k)
-  | _ ↦ λ k. tt ] refl
+  | _ ↦ λ k. tt
+] refl
 
 -- ---- a step within a statement
 
@@ -133,15 +144,16 @@ only_ok t ctx m n b c h = may_go_if t (go ctx m) (go ctx n) b (λ k. goes t ctx 
 opens_block : (t : Token) (ctx : Context) (m : Mode) (x : Before) (o : Opening) → IsContext ctx → IsBefore (scope ctx.outer) x → IsTrue (follows (role_before x) o) → IsOpening (scope ctx.outer) o
     → ((rest : List Token) → put_before x (put_opening o rest) ≡ put_mode m (t ∷ rest)) → IsNext t (go ctx m) (open_block ctx x o)
 opens_block t ctx m x o c w f v h = record {
-    config = record { context = record { outer = (c.lines, w, f, v, c.outer); lines = tt }; mode = (tt, record { frames = tt; now = tt }) };
-    tokens = λ rest. ap (put_context ctx) (h rest) }
+  config = record { context = record { outer = (c.lines, w, f, v, c.outer); lines = tt }; mode = (tt, record { frames = tt; now = tt }) };
+  tokens = λ rest. ap (put_context ctx) (h rest);
+}
 
 fresh_state : IsState (want [])
 fresh_state = record { frames = tt; now = tt }
 
 begin_ok : (t : Token) (ctx : Context) (w : Whole) → IsContext ctx → IsWhole (scope ctx.outer) (put_mode beginning) w → MayGo t (go ctx beginning) (begin_step t.kind t ctx w)
 begin_ok t ctx w c v = elim t.kind as (λ k. t.kind ≡ k → MayGo t (go ctx beginning) (ending_step k t ctx w) → MayGo t (go ctx beginning) (begin_step k t ctx w)) [
-    While ↦ λ k z. goes t ctx beginning (at_expression (in_header fresh (while_head t)) (want [])) c (record { mode = ((tt, refl, k), fresh_state); tokens = λ rest. refl })
+  | While ↦ λ k z. goes t ctx beginning (at_expression (in_header fresh (while_head t)) (want [])) c (record { mode = ((tt, refl, k), fresh_state); tokens = λ rest. refl })
   | If ↦ λ k z. goes t ctx beginning (at_expression (in_header fresh (if_head t)) (want [])) c (record { mode = ((tt, refl, k), fresh_state); tokens = λ rest. refl })
   | For ↦ λ k z. goes t ctx beginning (at_words (for_name t)) c (record { mode = k; tokens = λ rest. refl })
   | Try ↦ λ k z. opens_block t ctx beginning fresh (try_open t) c tt refl k (λ rest. refl)
@@ -152,16 +164,18 @@ begin_ok t ctx w c v = elim t.kind as (λ k. t.kind ≡ k → MayGo t (go ctx be
   | Return ↦ λ k z. only_ok t ctx beginning (at_expression (in_lead (returned t)) (want [])) (scope ctx.outer).function c (λ h. record { mode = ((h, k), fresh_state); tokens = λ rest. refl })
   | Break ↦ λ k z. only_ok t ctx beginning (complete (alone t)) (scope ctx.outer).loop c (λ h. record { mode = ap (is_alone (scope ctx.outer)) k ∙ h; tokens = λ rest. refl })
   | Continue ↦ λ k z. only_ok t ctx beginning (complete (alone t)) (scope ctx.outer).loop c (λ h. record { mode = ap (is_alone (scope ctx.outer)) k ∙ h; tokens = λ rest. refl })
-  | _ ↦ λ k z. z ] refl (ending_ok t ctx beginning w c v)
+  | _ ↦ λ k z. z
+] refl (ending_ok t ctx beginning w c v)
 
 value_ok : (n q t : Token) (ctx : Context) (w : Whole) → IsContext ctx → IsLead (scope ctx.outer) (assigned n q) → IsWhole (scope ctx.outer) (put_mode (at_expression (in_lead (assigned n q)) (want []))) w
     → MayGo t (go ctx (at_expression (in_lead (assigned n q)) (want []))) (value_step n q t.kind t ctx w)
 value_ok n q t ctx w c a v = elim t.kind as (λ k. t.kind ≡ k → MayGo t (go ctx m) (ending_step k t ctx w) → MayGo t (go ctx m) (value_step n q k t ctx w)) [
-    DistributedFor ↦ λ k z. goes t ctx m (at_words (distributed_open (target n q) t)) c (record { mode = (a, k); tokens = λ rest. refl })
-  | _ ↦ λ k z. z ] refl (ending_ok t ctx m w c v)
+  | DistributedFor ↦ λ k z. goes t ctx m (at_words (distributed_open (target n q) t)) c (record { mode = (a, k); tokens = λ rest. refl })
+  | _ ↦ λ k z. z
+] refl (ending_ok t ctx m w c v)
   where
-  m : Mode
-  m = at_expression (in_lead (assigned n q)) (want [])
+    m : Mode
+    m = at_expression (in_lead (assigned n q)) (want [])
 
 assign_ok : (t : Token) (ctx : Context) (e : Syntax) → IsContext ctx → IsAt true false 10 e → t.kind ≡ Assign → MayGo t (go ctx (at_expression (in_lead bare) (have [] e))) (assign_step t ctx e)
 assign_ok t ctx (leaf n) c u k = only_ok t ctx (at_expression (in_lead bare) (have [] (leaf n))) (at_expression (in_lead (assigned n t)) (want [])) (is_name n.kind) c
@@ -177,14 +191,15 @@ update_ok t ctx _ c k = tt
 target_ok : (t : Token) (ctx : Context) (e : Syntax) (w : Whole) → IsContext ctx → IsAt true false 10 e → IsWhole (scope ctx.outer) (put_mode (at_expression (in_lead bare) (have [] e))) w
     → MayGo t (go ctx (at_expression (in_lead bare) (have [] e))) (target_step t.kind t ctx e w)
 target_ok t ctx e w c u v = elim t.kind as (λ k. t.kind ≡ k → MayGo t (go ctx m) (ending_step k t ctx w) → MayGo t (go ctx m) (target_step k t ctx e w)) [
-    Assign ↦ λ k z. assign_ok t ctx e c u k
+  | Assign ↦ λ k z. assign_ok t ctx e c u k
   | PlusAssign ↦ λ k z. update_ok t ctx e c (ap is_update k)
   | MinusAssign ↦ λ k z. update_ok t ctx e c (ap is_update k)
   | StarAssign ↦ λ k z. update_ok t ctx e c (ap is_update k)
-  | _ ↦ λ k z. z ] refl (ending_ok t ctx m w c v)
+  | _ ↦ λ k z. z
+] refl (ending_ok t ctx m w c v)
   where
-  m : Mode
-  m = at_expression (in_lead bare) (have [] e)
+    m : Mode
+    m = at_expression (in_lead bare) (have [] e)
 
 statement_ok : (t : Token) (ctx : Context) (b : Bottom) (fs : List Frame) (n : Now) → IsContext ctx → IsBottom (scope ctx.outer) b → IsState (record { frames = fs; now = n })
     → MayGo t (go ctx (at_expression b (record { frames = fs; now = n }))) (statement_step t.kind t ctx b fs n)
@@ -218,15 +233,17 @@ signature_ok (of_everywhere every) f o t ps ctx m c w p k h = goes t ctx m (at_w
 
 first_ok : (w : Owner) (f o t : Token) (ctx : Context) → IsContext ctx → IsOwned (scope ctx.outer) w f o → MayGo t (go ctx (at_words (signature_first w f o))) (first_step w f o t.kind t ctx)
 first_ok w f o t ctx c v = elim t.kind as (λ k. t.kind ≡ k → MayGo t (go ctx (at_words (signature_first w f o))) (first_step w f o k t ctx)) [
-    Name n ↦ λ k. goes t ctx (at_words (signature_first w f o)) (at_words (signature_next w f o (first t))) c (record { mode = (v, ap is_name k, refl); tokens = λ rest. refl })
+  | Name n ↦ λ k. goes t ctx (at_words (signature_first w f o)) (at_words (signature_next w f o (first t))) c (record { mode = (v, ap is_name k, refl); tokens = λ rest. refl })
   | CloseParen ↦ λ k. signature_ok w f o t no_parameters ctx (at_words (signature_first w f o)) c v tt k (λ rest. refl)
-  | _ ↦ λ k. tt ] refl
+  | _ ↦ λ k. tt
+] refl
 
 next_ok : (w : Owner) (f o : Token) (ps : Parameters) (t : Token) (ctx : Context) → IsContext ctx → IsAwaited (scope ctx.outer) (signature_next w f o ps) → MayGo t (go ctx (at_words (signature_next w f o ps))) (next_step w f o ps t.kind t ctx)
 next_ok w f o ps t ctx c v = elim t.kind as (λ k. t.kind ≡ k → MayGo t (go ctx (at_words (signature_next w f o ps))) (next_step w f o ps k t ctx)) [
-    Comma ↦ λ k. goes t ctx (at_words (signature_next w f o ps)) (at_words (signature_name w f o ps t)) c (record { mode = (v.0, v.1, v.2, k); tokens = λ rest. refl })
+  | Comma ↦ λ k. goes t ctx (at_words (signature_next w f o ps)) (at_words (signature_name w f o ps t)) c (record { mode = (v.0, v.1, v.2, k); tokens = λ rest. refl })
   | CloseParen ↦ λ k. signature_ok w f o t ps ctx (at_words (signature_next w f o ps)) c v.0 v.1 k (λ rest. refl)
-  | _ ↦ λ k. tt ] refl
+  | _ ↦ λ k. tt
+] refl
 
 more_parameters : (ps : Parameters) (comma n : Token) → AreParameters ps → IsTrue (are_some ps) → comma.kind ≡ Comma → IsTrue (is_name n.kind) → IsTrue (is_fresh n.kind ps) → AreParameters (next ps comma n)
 more_parameters no_parameters comma n w s k a f = cc
@@ -235,10 +252,11 @@ more_parameters (next ps q m) comma n w s k a f = (w, k, a, f)
 
 everywhere_ok : (every t : Token) (ctx : Context) → IsContext ctx → IsAwaited (scope ctx.outer) (everywhere every) → MayGo t (go ctx (at_words (everywhere every))) (everywhere_step every t.kind t ctx)
 everywhere_ok every t ctx c v = elim t.kind as (λ k. t.kind ≡ k → MayGo t (go ctx (at_words (everywhere every))) (everywhere_step every k t ctx)) [
-    Using ↦ λ k. goes t ctx (at_words (everywhere every)) (at_words (everywhere_package every t)) c (record { mode = (v.0, v.1, k); tokens = λ rest. refl })
+  | Using ↦ λ k. goes t ctx (at_words (everywhere every)) (at_words (everywhere_package every t)) c (record { mode = (v.0, v.1, k); tokens = λ rest. refl })
   | Function ↦ λ k. goes t ctx (at_words (everywhere every)) (at_words (function_name (Some every) t)) c (record { mode = (v.0, v.1, k); tokens = λ rest. refl })
   | Name n ↦ λ k. goes t ctx (at_words (everywhere every)) (at_words (signature_open (of_everywhere every) t)) c (record { mode = ((v.0, v.1), ap is_name k); tokens = λ rest. refl })
-  | _ ↦ λ k. tt ] refl
+  | _ ↦ λ k. tt
+] refl
 
 trying_catch : (r : Role) (t sep : Token) → is_trying r ≡ true → IsTrue (follows r (catch_open t sep))
 trying_catch trying t sep h = refl
@@ -250,10 +268,11 @@ trying_named _ t n sep h = cc
 
 catch_step_ok : (x : Before) (q t : Token) (ctx : Context) → IsContext ctx → IsAwaited (scope ctx.outer) (catch_words x q) → MayGo t (go ctx (at_words (catch_words x q))) (catch_step x q t.kind t ctx)
 catch_step_ok x q t ctx c v = elim t.kind as (λ k. t.kind ≡ k → MayGo t (go ctx (at_words (catch_words x q))) (catch_step x q k t ctx)) [
-    Name n ↦ λ k. goes t ctx (at_words (catch_words x q)) (at_words (catch_named x q t)) c (record { mode = (v.0, v.1, v.2, ap is_name k); tokens = λ rest. refl })
+  | Name n ↦ λ k. goes t ctx (at_words (catch_words x q)) (at_words (catch_named x q t)) c (record { mode = (v.0, v.1, v.2, ap is_name k); tokens = λ rest. refl })
   | Semicolon ↦ λ k. opens_block t ctx (at_words (catch_words x q)) x (catch_open q t) c v.0 (trying_catch (role_before x) q t v.1) (v.2, ap is_separator k) (λ rest. refl)
   | LineEnd ↦ λ k. opens_block t ctx (at_words (catch_words x q)) x (catch_open q t) c v.0 (trying_catch (role_before x) q t v.1) (v.2, ap is_separator k) (λ rest. refl)
-  | _ ↦ λ k. tt ] refl
+  | _ ↦ λ k. tt
+] refl
 
 words_ok : (x : Awaited) (t : Token) (ctx : Context) → IsContext ctx → IsAwaited (scope ctx.outer) x → MayGo t (go ctx (at_words x)) (words_step x t ctx)
 words_ok (for_name f) t ctx c w = only_ok t ctx (at_words (for_name f)) (at_words (for_in f t)) (is_name t.kind) c (λ h. record { mode = (w, h); tokens = λ rest. refl })
@@ -283,15 +302,16 @@ words_ok (catch_named x q n) t ctx c v = may_go_if t (go ctx (at_words (catch_na
 
 complete_ok : (t : Token) (ctx : Context) (s : Stmt) → IsContext ctx → IsStmt (scope ctx.outer) s → MayGo t (go ctx (complete s)) (complete_step t.kind t ctx s)
 complete_ok t ctx s c w = elim t.kind as (λ k. t.kind ≡ k → MayGo t (go ctx (complete s)) (ending_step k t ctx (a_place (stmt s))) → MayGo t (go ctx (complete s)) (complete_step k t ctx s)) [
-    Comma ↦ λ k z. comma s w k z
-  | _ ↦ λ k z. z ] refl (ending_ok t ctx (complete s) (a_place (stmt s)) c (w, λ rest. refl))
+  | Comma ↦ λ k z. comma s w k z
+  | _ ↦ λ k z. z
+] refl (ending_ok t ctx (complete s) (a_place (stmt s)) c (w, λ rest. refl))
   where
-  comma : (s : Stmt) → IsStmt (scope ctx.outer) s → t.kind ≡ Comma → MayGo t (go ctx (complete s)) (ending_step Comma t ctx (a_place (stmt s))) → MayGo t (go ctx (complete s)) (complete_step Comma t ctx s)
-  comma (packages ns) w k z = goes t ctx (complete (packages ns)) (at_words (package_next ns t)) c (record { mode = (w.0, w.1, k); tokens = λ rest. refl })
-  comma (ended l e) w k z = z
-  comma (alone u) w k z = z
-  comma (packages_everywhere e u n) w k z = z
-  comma (blocks p b u) w k z = z
+    comma : (s : Stmt) → IsStmt (scope ctx.outer) s → t.kind ≡ Comma → MayGo t (go ctx (complete s)) (ending_step Comma t ctx (a_place (stmt s))) → MayGo t (go ctx (complete s)) (complete_step Comma t ctx s)
+    comma (packages ns) w k z = goes t ctx (complete (packages ns)) (at_words (package_next ns t)) c (record { mode = (w.0, w.1, k); tokens = λ rest. refl })
+    comma (ended l e) w k z = z
+    comma (alone u) w k z = z
+    comma (packages_everywhere e u n) w k z = z
+    comma (blocks p b u) w k z = z
 
 -- ---- a step
 

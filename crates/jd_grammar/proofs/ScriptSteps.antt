@@ -16,9 +16,10 @@ use Rattle.jd_grammar.proofs.Context.{are_some}
 -- a run goes on with an expression as its machine does
 abbrev pub follow : Context → Bottom → Follows
 follow ctx b = record {
-    to = Option Config;
-    run = λ ts s. run ts (go ctx (at_expression b s));
-    goes = λ t rest s d h. ap (λ o. and_then (either o t.kind t ctx b s) (run rest)) h }
+  to = Option Config;
+  run = λ ts s. run ts (go ctx (at_expression b s));
+  goes = λ t rest s d h. ap (λ o. and_then (either o t.kind t ctx b s) (run rest)) h;
+}
 
 -- a separator, or a word that ends a block
 abbrev pub is_ending : Kind → Bool
@@ -134,7 +135,9 @@ only_runs b c rest h = ap (λ x. and_then (only_if x c) (run rest)) h
 
 name_runs : (n : Token) (ctx : Context) (rest : List Token) → is_name n.kind ≡ true → run (n ∷ rest) (go ctx beginning) ≡ run rest (go ctx (at_expression (in_lead bare) (have [] (leaf n))))
 name_runs n ctx rest h = elim n.kind as (λ k. is_name k ≡ true → and_then (either (want_step k n []) k n ctx (in_lead bare) (want [])) (run rest) ≡ run rest (go ctx (at_expression (in_lead bare) (have [] (leaf n))))) [
-    Name a ↦ λ h. refl | _ ↦ λ h. cc ] h
+  | Name a ↦ λ h. refl
+  | _ ↦ λ h. cc
+] h
 
 pub assigned_runs : (n t : Token) (ctx : Context) (rest : List Token) → is_name n.kind ≡ true → t.kind ≡ Assign → run (n ∷ t ∷ rest) (go ctx beginning) ≡ run rest (go ctx (at_expression (in_lead (assigned n t)) (want [])))
 assigned_runs n t ctx rest h k = name_runs n ctx (t ∷ rest) h
@@ -144,17 +147,18 @@ assigned_runs n t ctx rest h k = name_runs n ctx (t ∷ rest) h
 pub updated_runs : (n t : Token) (ctx : Context) (rest : List Token) → is_name n.kind ≡ true → is_update t.kind ≡ true → run (n ∷ t ∷ rest) (go ctx beginning) ≡ run rest (go ctx (at_expression (in_lead (updated n t)) (want [])))
 updated_runs n t ctx rest h k = name_runs n ctx (t ∷ rest) h
     ∙ elim t.kind as (λ x. is_update x ≡ true → and_then (either (have_step x t [] (leaf n)) x t ctx (in_lead bare) (have [] (leaf n))) (run rest) ≡ run rest (go ctx (at_expression (in_lead (updated n t)) (want [])))) [
-        PlusAssign ↦ λ k. only_runs (is_name n.kind) (go ctx (at_expression (in_lead (updated n t)) (want []))) rest h
+      | PlusAssign ↦ λ k. only_runs (is_name n.kind) (go ctx (at_expression (in_lead (updated n t)) (want []))) rest h
       | MinusAssign ↦ λ k. only_runs (is_name n.kind) (go ctx (at_expression (in_lead (updated n t)) (want []))) rest h
       | StarAssign ↦ λ k. only_runs (is_name n.kind) (go ctx (at_expression (in_lead (updated n t)) (want []))) rest h
-      | _ ↦ λ k. cc ] k
+      | _ ↦ λ k. cc
+    ] k
 
 define_runs : (head : Syntax) (t : Token) (ctx : Context) (rest : List Token) → (scope ctx.outer).top ≡ true → is_signature head ≡ true → t.kind ≡ Assign
     → run (t ∷ rest) (go ctx (at_expression (in_lead bare) (have [] head))) ≡ run rest (go ctx (at_expression (in_lead (defined head t)) (want [])))
 define_runs (bracket (called (leaf f)) o most last c) t ctx rest p h k =
     ap (λ x. and_then (either (have_step x t [] (bracket (called (leaf f)) o most last c)) x t ctx (in_lead bare) (have [] (bracket (called (leaf f)) o most last c))) (run rest)) k
     ∙ only_runs ((scope ctx.outer).top && is_signature (bracket (called (leaf f)) o most last c)) (go ctx (at_expression (in_lead (defined (bracket (called (leaf f)) o most last c) t)) (want []))) rest
-        (and_true (scope ctx.outer).top (is_signature (bracket (called (leaf f)) o most last c)) p h)
+    (and_true (scope ctx.outer).top (is_signature (bracket (called (leaf f)) o most last c)) p h)
 define_runs _ t ctx rest p h k = cc
 
 pub defined_runs : (head : Syntax) (t : Token) (ctx : Context) (rest : List Token) → (scope ctx.outer).top ≡ true → IsAt true false 10 head → is_signature head ≡ true → t.kind ≡ Assign
@@ -177,7 +181,9 @@ parameters_run : (ps : Parameters) (w : Owner) (f o : Token) (ctx : Context) (re
     → run (put_parameters ps rest) (go ctx (at_words (signature_first w f o))) ≡ run rest (go ctx (at_words (signature_next w f o ps)))
 parameters_run no_parameters w f o ctx rest v s = cc
 parameters_run (first n) w f o ctx rest v s = elim n.kind as (λ k. is_name k ≡ true → and_then (first_step w f o k n ctx) (run rest) ≡ run rest (go ctx (at_words (signature_next w f o (first n))))) [
-    Name a ↦ λ h. refl | _ ↦ λ h. cc ] v
+  | Name a ↦ λ h. refl
+  | _ ↦ λ h. cc
+] v
 parameters_run (next no_parameters comma n) w f o ctx rest v s = absurd v
 parameters_run (next (first m) comma n) w f o ctx rest v s = parameters_run (first m) w f o ctx (comma ∷ n ∷ rest) v.0 refl ∙ next_runs (first m) comma n w f o ctx rest v.1 v.2 v.3
 parameters_run (next (next ps q m) comma n) w f o ctx rest v s = parameters_run (next ps q m) w f o ctx (comma ∷ n ∷ rest) v.0 refl ∙ next_runs (next ps q m) comma n w f o ctx rest v.1 v.2 v.3
@@ -218,7 +224,9 @@ function_runs (Some u) t s ctx rest p e k v =
 
 everywhere_name : (u n : Token) (ctx : Context) (rest : List Token) → is_name n.kind ≡ true → run (n ∷ rest) (go ctx (at_words (everywhere u))) ≡ run rest (go ctx (at_words (signature_open (of_everywhere u) n)))
 everywhere_name u n ctx rest h = elim n.kind as (λ k. is_name k ≡ true → and_then (everywhere_step u k n ctx) (run rest) ≡ run rest (go ctx (at_words (signature_open (of_everywhere u) n)))) [
-    Name a ↦ λ h. refl | _ ↦ λ h. cc ] h
+  | Name a ↦ λ h. refl
+  | _ ↦ λ h. cc
+] h
 
 everywhere_runs : (u : Token) (s : Signature) (t : Token) (ctx : Context) (rest : List Token) → (scope ctx.outer).top ≡ true → u.kind ≡ Everywhere → IsSignature s → t.kind ≡ Assign
     → run (u ∷ put_signature s (t ∷ rest)) (go ctx beginning) ≡ run rest (go ctx (at_expression (in_lead (defined_everywhere u s t)) (want [])))

@@ -29,24 +29,25 @@ wide_cell : (t m : Token) (l : Syntax) (o : Token) (fs : List Frame) → IsState
     → MayStep t (want (open_end (binary l m) ∷ (fixed (in_bracket itemed o none) ∷ fs))) (wide_step t (open_end (binary l m) ∷ (fixed (in_bracket itemed o none) ∷ fs)))
 wide_cell t m l o fs w =
     may_if t (want (open_end (binary l m) ∷ (fixed (in_bracket itemed o none) ∷ fs))) (await fs (atoms (rows o (first_of l) (with_cell (cells_of l) None (ending (unary m) (leaf t))) None)))
-      (((is_minus m.kind && m.spaced) && (is_least t.kind t.spaced && is_chain l)) && are_begun (with_cell (cells_of l) None (ending (unary m) (leaf t)))) (λ h.
-        let a = both ((is_minus m.kind && m.spaced) && (is_least t.kind t.spaced && is_chain l)) (are_begun (with_cell (cells_of l) None (ending (unary m) (leaf t)))) h in
-        let b = both (is_minus m.kind && m.spaced) (is_least t.kind t.spaced && is_chain l) a.0 in
-        let c = both (is_minus m.kind) m.spaced b.0 in
-        let d = both (is_least t.kind t.spaced) (is_chain l) b.1 in
-        let p = split l true false (left m.kind) d.1 w.frames.0.2 in
-        let k = minus_of m.kind c.0 in
-        let g : is_tight t ≡ true = least_tight t.kind t.spaced d.0 in
-        record {
-          state = record { frames = w.frames.2.1; now = committed o l None (ending (unary m) (leaf t)) fs w.frames.2.0.1 p (tight_leaf m t k g) (ap (λ x. is_minus x && is_tight t) k ∙ g) c.1 a.1 };
-          tokens = λ rest. ap (λ ts. put_frames fs (o ∷ put (first_of l) ts)) (put_with_cell (cells_of l) None (ending (unary m) (leaf t)) rest)
-              ∙ ap (λ ts. put_frames fs (o ∷ ts)) (sym (p.tokens (m ∷ t ∷ rest))) })
+    (((is_minus m.kind && m.spaced) && (is_least t.kind t.spaced && is_chain l)) && are_begun (with_cell (cells_of l) None (ending (unary m) (leaf t)))) (λ h.
+    let a = both ((is_minus m.kind && m.spaced) && (is_least t.kind t.spaced && is_chain l)) (are_begun (with_cell (cells_of l) None (ending (unary m) (leaf t)))) h in
+    let b = both (is_minus m.kind && m.spaced) (is_least t.kind t.spaced && is_chain l) a.0 in
+    let c = both (is_minus m.kind) m.spaced b.0 in
+    let d = both (is_least t.kind t.spaced) (is_chain l) b.1 in
+    let p = split l true false (left m.kind) d.1 w.frames.0.2 in
+    let k = minus_of m.kind c.0 in
+    let g : is_tight t ≡ true = least_tight t.kind t.spaced d.0 in
+    record {
+      state = record { frames = w.frames.2.1; now = committed o l None (ending (unary m) (leaf t)) fs w.frames.2.0.1 p (tight_leaf m t k g) (ap (λ x. is_minus x && is_tight t) k ∙ g) c.1 a.1 };
+      tokens = λ rest. ap (λ ts. put_frames fs (o ∷ put (first_of l) ts)) (put_with_cell (cells_of l) None (ending (unary m) (leaf t)) rest)
+          ∙ ap (λ ts. put_frames fs (o ∷ ts)) (sym (p.tokens (m ∷ t ∷ rest)));
+    })
   where
-  least_tight : (k : Kind) (b : Bool) → is_least k b ≡ true → (if b then false else (if is_number k then true else is_least k b)) ≡ true
-  least_tight (Wide g) false h = h
-  least_tight (Wide true) true h = cc
-  least_tight (Wide false) true h = cc
-  least_tight _ b h = cc
+    least_tight : (k : Kind) (b : Bool) → is_least k b ≡ true → (if b then false else (if is_number k then true else is_least k b)) ≡ true
+    least_tight (Wide g) false h = h
+    least_tight (Wide true) true h = cc
+    least_tight (Wide false) true h = cc
+    least_tight _ b h = cc
 
 wide_ok : (t : Token) (fs : List Frame) → IsState (want fs) → MayStep t (want fs) (wide_step t fs)
 wide_ok t (open_end (binary l m) ∷ (fixed (in_bracket itemed o none) ∷ fs)) w = wide_cell t m l o fs w
@@ -62,7 +63,7 @@ spawn_ok t fs w k = may_if t (want fs) (await fs (atoms (spawning t))) (nat_le (
 
 want_ok : (t : Token) (fs : List Frame) → IsState (want fs) → MayStep t (want fs) (want_step t.kind t fs)
 want_ok t fs w = elim t.kind as (λ k. t.kind ≡ k → MayStep t (want fs) (want_end k t fs) → MayStep t (want fs) (want_step k t fs)) [
-    Number n ↦ λ k z. leaf_ok t fs w (ap is_leaf k)
+  | Number n ↦ λ k z. leaf_ok t fs w (ap is_leaf k)
   | Text n ↦ λ k z. leaf_ok t fs w (ap is_leaf k)
   | Name n ↦ λ k z. leaf_ok t fs w (ap is_leaf k)
   | True ↦ λ k z. leaf_ok t fs w (ap is_leaf k)
@@ -81,7 +82,8 @@ want_ok t fs w = elim t.kind as (λ k. t.kind ≡ k → MayStep t (want fs) (wan
   | OpenBracket ↦ λ k z. record { state = record { frames = ((tt, k, tt), w.frames); now = tt }; tokens = λ rest. refl }
   | SpawnAt ↦ λ k z. spawn_ok t fs w (ap is_spawn k)
   | FetchFrom ↦ λ k z. spawn_ok t fs w (ap is_spawn k)
-  | _ ↦ λ k z. z ] refl (want_end_ok t fs w)
+  | _ ↦ λ k z. z
+] refl (want_end_ok t fs w)
 
 -- ---- behind an operand
 
@@ -107,8 +109,10 @@ end_ok s p gs t (fixed f ∷ fs, e) c h =
 binary_ok : (s : State) (gs : List Frame) (t : Token) (r : List Frame × Syntax) → IsClosed (left t.kind) gs r → Stands s r → 1 ≤ strength t.kind → stands t.kind (ranges gs) ≡ true
     → MayStep t s (at_binary t r)
 binary_ok s gs t (fs, e) c h k b = may_if t s (want (open_end (binary e t) ∷ fs)) (nat_le (demand fs) (strength t.kind)) (λ d.
-    record { state = record { frames = ((k, ap (stands t.kind) c.same ∙ b, weaken (ranges fs) (negated fs) c.level (left t.kind) e c.bound c.operand), le_of (demand fs) (strength t.kind) d, c.frames); now = tt };
-      tokens = λ rest. h (t ∷ rest) })
+    record {
+      state = record { frames = ((k, ap (stands t.kind) c.same ∙ b, weaken (ranges fs) (negated fs) c.level (left t.kind) e c.bound c.operand), le_of (demand fs) (strength t.kind) d, c.frames); now = tt };
+      tokens = λ rest. h (t ∷ rest);
+    })
 
 question_ok : (s : State) (gs : List Frame) (t : Token) (r : List Frame × Syntax) → IsClosed 3 gs r → Stands s r → t.kind ≡ Question → MayStep t s (at_question t r)
 question_ok s gs t (fs, e) c h k = may_if t s (want (fixed (in_middle e t) ∷ fs)) (nat_le (demand fs) 2) (λ d.
@@ -128,23 +132,24 @@ keyword_ok t fs _ w k = tt
 brace_ok : (t : Token) (fs : List Frame) (e : Syntax) → IsState (have fs e) → t.kind ≡ OpenBrace → MayStep t (have fs e) (at_brace t fs e)
 brace_ok t (open_end (lambda (bracket grouped l none nothing r) a) ∷ (fixed (in_bracket (called (leaf f)) o none) ∷ fs)) (leaf n) w k =
     may_if t (have (open_end (lambda (bracket grouped l none nothing r) a) ∷ (fixed (in_bracket (called (leaf f)) o none) ∷ fs)) (leaf n))
-      (await fs (element_type (record { callee = f; opens = o; none_opens = l; none_closes = r; arrow = a; word = n; brace = t })))
-      (is_word word.RemoteChannel f.kind && is_word word.Channel n.kind) (λ h.
-        let b = both (is_word word.RemoteChannel f.kind) (is_word word.Channel n.kind) h in
-        let l = w.frames.0 in
-        let c = w.frames.2 in
-        record { state = record { frames = c.1; now = (b.0, c.0.1, l.0.1, l.0.4, l.2, b.1, k) }; tokens = λ rest. refl })
+    (await fs (element_type (record { callee = f; opens = o; none_opens = l; none_closes = r; arrow = a; word = n; brace = t })))
+    (is_word word.RemoteChannel f.kind && is_word word.Channel n.kind) (λ h.
+    let b = both (is_word word.RemoteChannel f.kind) (is_word word.Channel n.kind) h in
+    let l = w.frames.0 in
+    let c = w.frames.2 in
+    record { state = record { frames = c.1; now = (b.0, c.0.1, l.0.1, l.0.4, l.2, b.1, k) }; tokens = λ rest. refl })
 brace_ok t _ _ w k = tt
 
 more_ok : (t : Token) (fs : List Frame) (e : Syntax) → IsState (have fs e) → MayStep t (have fs e) (have_more t.kind t fs e)
 more_ok t fs e w = elim t.kind as (λ k. t.kind ≡ k → MayStep t (have fs e) (at_end k t (close 0 fs e)) → MayStep t (have fs e) (have_more k t fs e)) [
-    OpenParen ↦ λ k z. record { state = record { frames = ((w.now, k, tt), w.frames); now = tt }; tokens = λ rest. refl }
+  | OpenParen ↦ λ k z. record { state = record { frames = ((w.now, k, tt), w.frames); now = tt }; tokens = λ rest. refl }
   | OpenBracket ↦ λ k z. record { state = record { frames = ((w.now, k, tt), w.frames); now = tt }; tokens = λ rest. refl }
   | OpenBrace ↦ λ k z. brace_ok t fs e w k
   | Arrow ↦ λ k z. arrow_ok t fs e w k
   | Assign ↦ λ k z. keyword_ok t fs e w k
   | Question ↦ λ k z. question_ok (have fs e) fs t (close 3 fs e) (closed 3 fs e (omega arith) w) (close_put 3 fs e) k
-  | _ ↦ λ k z. z ] refl (end_ok (have fs e) 0 fs t (close 0 fs e) (closed 0 fs e (omega arith) w) (close_put 0 fs e))
+  | _ ↦ λ k z. z
+] refl (end_ok (have fs e) 0 fs t (close 0 fs e) (closed 0 fs e (omega arith) w) (close_put 0 fs e))
 
 left_le : (k : Kind) → left k ≤ 9
 left_le OrElse = omega arith
@@ -157,11 +162,13 @@ left_le _ = omega arith
 have_ok : (t : Token) (fs : List Frame) (e : Syntax) → IsState (have fs e) → MayStep t (have fs e) (have_step t.kind t fs e)
 have_ok t fs e w =
     elim (nat_le 1 (strength t.kind)) as (λ b. nat_le 1 (strength t.kind) ≡ b → MayStep t (have fs e)
-        (if b then (if stands t.kind (ranges fs) then at_binary t (close (left t.kind) fs e) else at_end t.kind t (close 0 fs e)) else have_more t.kind t fs e)) [
-      true ↦ λ k. elim (stands t.kind (ranges fs)) as (λ b. stands t.kind (ranges fs) ≡ b → MayStep t (have fs e) (if b then at_binary t (close (left t.kind) fs e) else at_end t.kind t (close 0 fs e))) [
-          true ↦ λ h. binary_ok (have fs e) fs t (close (left t.kind) fs e) (closed (left t.kind) fs e (left_le t.kind) w) (close_put (left t.kind) fs e) (le_of 1 (strength t.kind) k) h
-        | false ↦ λ h. end_ok (have fs e) 0 fs t (close 0 fs e) (closed 0 fs e (omega arith) w) (close_put 0 fs e) ] refl
-    | false ↦ λ k. more_ok t fs e w ] refl
+    (if b then (if stands t.kind (ranges fs) then at_binary t (close (left t.kind) fs e) else at_end t.kind t (close 0 fs e)) else have_more t.kind t fs e)) [
+      | true ↦ λ k. elim (stands t.kind (ranges fs)) as (λ b. stands t.kind (ranges fs) ≡ b → MayStep t (have fs e) (if b then at_binary t (close (left t.kind) fs e) else at_end t.kind t (close 0 fs e))) [
+        | true ↦ λ h. binary_ok (have fs e) fs t (close (left t.kind) fs e) (closed (left t.kind) fs e (left_le t.kind) w) (close_put (left t.kind) fs e) (le_of 1 (strength t.kind) k) h
+        | false ↦ λ h. end_ok (have fs e) 0 fs t (close 0 fs e) (closed 0 fs e (omega arith) w) (close_put 0 fs e)
+      ] refl
+      | false ↦ λ k. more_ok t fs e w
+    ] refl
 
 -- ---- a step
 

@@ -42,24 +42,31 @@ wide_leaf t fs h = if_some (negated fs && is_least t.kind t.spaced) (have fs (le
 
 pub leaf_steps : (t : Token) (fs : List Frame) → IsTrue (if is_leaf t.kind then true else negated fs && is_least t.kind t.spaced) → want_step t.kind t fs ≡ Some (have fs (leaf t))
 leaf_steps t fs = elim t.kind as (λ k. (k ≡ t.kind) → IsTrue (if is_leaf k then true else negated fs && is_least k t.spaced) → want_step k t fs ≡ Some (have fs (leaf t))) [
-    Number n ↦ λ k h. refl
+  | Number n ↦ λ k h. refl
   | Text n ↦ λ k h. refl
   | Name n ↦ λ k h. refl
   | True ↦ λ k h. refl
   | False ↦ λ k h. refl
   | Nothing ↦ λ k h. refl
   | Wide b ↦ λ k h. wide_leaf t fs (ap (λ x. negated fs && is_least x t.spaced) (sym k) ∙ h)
-  | _ ↦ λ k h. absurd (and_false (negated fs) h) ] refl
+  | _ ↦ λ k h. absurd (and_false (negated fs) h)
+] refl
 
 pub unary_steps : (t : Token) (fs : List Frame) → IsTrue (is_unary t.kind) → want_step t.kind t fs ≡ Some (want (open_end (unary t) ∷ fs))
 unary_steps t fs = elim t.kind as (λ k. IsTrue (is_unary k) → want_step k t fs ≡ Some (want (open_end (unary t) ∷ fs))) [
-    Plus ↦ λ h. refl | Minus ↦ λ h. refl | Not ↦ λ h. refl | Complement ↦ λ h. refl | _ ↦ λ h. cc ]
+  | Plus ↦ λ h. refl
+  | Minus ↦ λ h. refl
+  | Not ↦ λ h. refl
+  | Complement ↦ λ h. refl
+  | _ ↦ λ h. cc
+]
 
 pub spawn_steps : (t : Token) (fs : List Frame) → IsTrue (is_spawn t.kind) → demand fs ≤ 1 → want_step t.kind t fs ≡ Some (await fs (atoms (spawning t)))
 spawn_steps t fs h d = elim t.kind as (λ k. IsTrue (is_spawn k) → want_step k t fs ≡ Some (await fs (atoms (spawning t)))) [
-    SpawnAt ↦ λ h. if_some (nat_le (demand fs) 1) (await fs (atoms (spawning t))) (test_le (demand fs) 1 d)
+  | SpawnAt ↦ λ h. if_some (nat_le (demand fs) 1) (await fs (atoms (spawning t))) (test_le (demand fs) 1 d)
   | FetchFrom ↦ λ h. if_some (nat_le (demand fs) 1) (await fs (atoms (spawning t))) (test_le (demand fs) 1 d)
-  | _ ↦ λ h. cc ] h
+  | _ ↦ λ h. cc
+] h
 
 -- ---- behind an operand
 
@@ -205,24 +212,28 @@ empty_steps b o es t fs h k = ender_want t.kind t (fixed (in_bracket b o es) ∷
 pub sign_runs : (m : Follows) (u t : Token) (f : Syntax) (o : Token) (es : Items) (fs : List Frame) (rest : List Token) (d : State) → is_argument u.kind ≡ true → is_ender t.kind ≡ true
     → bracket_step (called f) o es t.kind t fs (sign u) ≡ Some d → m.run (u ∷ t ∷ rest) (want (fixed (in_bracket (called f) o es) ∷ fs)) ≡ m.run rest d
 sign_runs m u t f o es fs rest d a h s = elim u.kind as (λ k. u.kind ≡ k → m.run (u ∷ t ∷ rest) (want (fixed (in_bracket (called f) o es) ∷ fs)) ≡ m.run rest d) [
-    Plus ↦ λ k. m.goes u (t ∷ rest) (want (fixed (in_bracket (called f) o es) ∷ fs)) (want (open_end (unary u) ∷ (fixed (in_bracket (called f) o es) ∷ fs))) (ap (λ x. want_step x u (fixed (in_bracket (called f) o es) ∷ fs)) k)
-        ∙ m.goes t rest (want (open_end (unary u) ∷ (fixed (in_bracket (called f) o es) ∷ fs))) d
-            (ender_want t.kind t (open_end (unary u) ∷ (fixed (in_bracket (called f) o es) ∷ fs)) h ∙ ap (λ b. if b then bracket_step (called f) o es t.kind t fs (sign u) else None) a ∙ s)
+  | Plus ↦ λ k. m.goes u (t ∷ rest) (want (fixed (in_bracket (called f) o es) ∷ fs)) (want (open_end (unary u) ∷ (fixed (in_bracket (called f) o es) ∷ fs))) (ap (λ x. want_step x u (fixed (in_bracket (called f) o es) ∷ fs)) k)
+      ∙ m.goes t rest (want (open_end (unary u) ∷ (fixed (in_bracket (called f) o es) ∷ fs))) d
+      (ender_want t.kind t (open_end (unary u) ∷ (fixed (in_bracket (called f) o es) ∷ fs)) h ∙ ap (λ b. if b then bracket_step (called f) o es t.kind t fs (sign u) else None) a ∙ s)
   | Star ↦ λ k. waits (ap (λ x. want_step x u (fixed (in_bracket (called f) o es) ∷ fs)) k)
   | And ↦ λ k. waits (ap (λ x. want_step x u (fixed (in_bracket (called f) o es) ∷ fs)) k)
   | Or ↦ λ k. waits (ap (λ x. want_step x u (fixed (in_bracket (called f) o es) ∷ fs)) k)
   | Xor ↦ λ k. waits (ap (λ x. want_step x u (fixed (in_bracket (called f) o es) ∷ fs)) k)
-  | _ ↦ λ k. (let z = sym (ap is_argument k) ∙ a in cc) ] refl
+  | _ ↦ λ k. (let z = sym (ap is_argument k) ∙ a in cc)
+] refl
   where
-  waits : want_step u.kind u (fixed (in_bracket (called f) o es) ∷ fs) ≡ Some (await (fixed (in_bracket (called f) o es) ∷ fs) (operator u)) → m.run (u ∷ t ∷ rest) (want (fixed (in_bracket (called f) o es) ∷ fs)) ≡ m.run rest d
-  waits g = m.goes u (t ∷ rest) (want (fixed (in_bracket (called f) o es) ∷ fs)) (await (fixed (in_bracket (called f) o es) ∷ fs) (operator u)) g
-      ∙ m.goes t rest (await (fixed (in_bracket (called f) o es) ∷ fs) (operator u)) d s
+    waits : want_step u.kind u (fixed (in_bracket (called f) o es) ∷ fs) ≡ Some (await (fixed (in_bracket (called f) o es) ∷ fs) (operator u)) → m.run (u ∷ t ∷ rest) (want (fixed (in_bracket (called f) o es) ∷ fs)) ≡ m.run rest d
+    waits g = m.goes u (t ∷ rest) (want (fixed (in_bracket (called f) o es) ∷ fs)) (await (fixed (in_bracket (called f) o es) ∷ fs) (operator u)) g
+        ∙ m.goes t rest (await (fixed (in_bracket (called f) o es) ∷ fs) (operator u)) d s
 
 -- ---- atoms
 
 plain_atom : (hold : Hold) (t : Token) (fs : List Frame) → (if is_number t.kind then true else is_name t.kind) ≡ true → takes hold t ≡ true → atoms_step hold t.kind t fs ≡ Some (filled hold (leaf t) fs)
 plain_atom hold t fs h k = elim t.kind as (λ k. (if is_number k then true else is_name k) ≡ true → atoms_step hold k t fs ≡ Some (filled hold (leaf t) fs)) [
-    Number n ↦ λ h. if_some (takes hold t) (filled hold (leaf t) fs) k | Name n ↦ λ h. if_some (takes hold t) (filled hold (leaf t) fs) k | _ ↦ λ h. cc ] h
+  | Number n ↦ λ h. if_some (takes hold t) (filled hold (leaf t) fs) k
+  | Name n ↦ λ h. if_some (takes hold t) (filled hold (leaf t) fs) k
+  | _ ↦ λ h. cc
+] h
 
 pub leaf_atom : (m : Follows) (hold : Hold) (t : Token) (fs : List Frame) (rest : List Token) → (if is_number t.kind then true else is_name t.kind) ≡ true → takes hold t ≡ true
     → m.run (t ∷ rest) (await fs (atoms hold)) ≡ m.run rest (filled hold (leaf t) fs)

@@ -94,13 +94,13 @@ short_row (ending (unary t) e) h l =
     let a = both (is_minus t.kind) (begins_tight e && is_chain e) h in
     let b = both (begins_tight e) (is_chain e) a.1 in omega (arith, short_tight e b.0 l)
   where
-  short_tight : (e : Syntax) → begins_tight e ≡ true → is_long e ≡ false → height e ≡ 0
-  short_tight (leaf t) h l = refl
-  short_tight (bracket (called f) o es last c) h l = cc
-  short_tight (bracket grouped _ _ _ _) h l = cc
-  short_tight (bracket itemed _ _ _ _) h l = cc
-  short_tight (bracket (indexed _) _ _ _ _) h l = cc
-  short_tight _ h l = cc
+    short_tight : (e : Syntax) → begins_tight e ≡ true → is_long e ≡ false → height e ≡ 0
+    short_tight (leaf t) h l = refl
+    short_tight (bracket (called f) o es last c) h l = cc
+    short_tight (bracket grouped _ _ _ _) h l = cc
+    short_tight (bracket itemed _ _ _ _) h l = cc
+    short_tight (bracket (indexed _) _ _ _ _) h l = cc
+    short_tight _ h l = cc
 short_row (ending (binary l t) e) h k = cc
 short_row (bracket grouped o none (just e) c) h l = omega arith
 short_row (bracket (called f) o es last c) h l = cc
@@ -119,14 +119,14 @@ pub single_full : (e : Syntax) → count_cells (cells_of e) + 1 ≤ 262144 → i
 single_full e h =
     let s = single_cells e in
     and_true (are_even (first_width 1 (cells_of e)) 1 (cells_of e)) (nat_eq (last_width 1 (cells_of e)) (first_width 1 (cells_of e)) && nat_le (count_cells (cells_of e) + 1) most_atoms)
-      (single_even (first_width 1 (cells_of e)) 1 (cells_of e) s)
-      (and_true (nat_eq (last_width 1 (cells_of e)) (first_width 1 (cells_of e))) (nat_le (count_cells (cells_of e) + 1) most_atoms)
-        (test_eq (last_width 1 (cells_of e)) (first_width 1 (cells_of e)) (single_width 1 (cells_of e) s)) (test_le (count_cells (cells_of e) + 1) most_atoms h))
+    (single_even (first_width 1 (cells_of e)) 1 (cells_of e) s)
+    (and_true (nat_eq (last_width 1 (cells_of e)) (first_width 1 (cells_of e))) (nat_le (count_cells (cells_of e) + 1) most_atoms)
+    (test_eq (last_width 1 (cells_of e)) (first_width 1 (cells_of e)) (single_width 1 (cells_of e) s)) (test_le (count_cells (cells_of e) + 1) most_atoms h))
 
 pub full_few : (cells : Cells) → is_full cells ≡ true → count_cells cells + 1 ≤ 262144
 full_few cells h = le_of (count_cells cells + 1) most_atoms
     (both (nat_eq (last_width 1 cells) (first_width 1 cells)) (nat_le (count_cells cells + 1) most_atoms)
-      (both (are_even (first_width 1 cells) 1 cells) (nat_eq (last_width 1 cells) (first_width 1 cells) && nat_le (count_cells cells + 1) most_atoms) h).1).1
+    (both (are_even (first_width 1 cells) 1 cells) (nat_eq (last_width 1 cells) (first_width 1 cells) && nat_le (count_cells cells + 1) most_atoms) h).1).1
 
 -- ---- the order
 
@@ -143,11 +143,13 @@ same_under e = record { tall = omega arith; plain = λ h. h; chain = λ h. h; ro
 
 pub under_under : (a b c : Syntax) → Under a b → Under b c → Under a c
 under_under a b c p q = record {
-    tall = omega (arith, p.tall, q.tall);
-    plain = λ h. p.plain (q.plain h); chain = λ h. p.chain (q.chain h);
-    row = λ h. omega (arith, p.row (q.chain h), q.row h);
-    few = λ h. omega (arith, p.few (q.chain h), q.few h);
-    tight = λ h. p.tight (q.tight h) }
+  tall = omega (arith, p.tall, q.tall);
+  plain = λ h. p.plain (q.plain h);
+  chain = λ h. p.chain (q.chain h);
+  row = λ h. omega (arith, p.row (q.chain h), q.row h);
+  few = λ h. omega (arith, p.few (q.chain h), q.few h);
+  tight = λ h. p.tight (q.tight h);
+}
 
 -- a number is under all
 pub zero_under : (e : Syntax) → Under zero_leaf e
@@ -159,29 +161,33 @@ flat_under e d h p c t = record { tall = h; plain = p; chain = λ k. let z = sym
 
 unary_under : (t : Token) (e d : Syntax) → Under e d → Under (ending (unary t) e) (ending (unary t) d)
 unary_under t e d u = record {
-    tall = omega (arith, u.tall); plain = λ h. refl;
-    chain = λ h. let a = both (is_minus t.kind) (begins_tight d && is_chain d) h in let b = both (begins_tight d) (is_chain d) a.1 in
-        and_true (is_minus t.kind) (begins_tight e && is_chain e) a.0 (and_true (begins_tight e) (is_chain e) (u.tight b.0) (u.chain b.1));
-    row = λ h. let a = both (is_minus t.kind) (begins_tight d && is_chain d) h in let b = both (begins_tight d) (is_chain d) a.1 in
-        omega (arith, u.row b.1, tight_flat d b.0, tight_flat e (u.tight b.0));
-    few = λ h. let a = both (is_minus t.kind) (begins_tight d && is_chain d) h in u.few (both (begins_tight d) (is_chain d) a.1).1;
-    tight = λ h. cc }
+  tall = omega (arith, u.tall);
+  plain = λ h. refl;
+  chain = λ h. let a = both (is_minus t.kind) (begins_tight d && is_chain d) h in let b = both (begins_tight d) (is_chain d) a.1 in
+      and_true (is_minus t.kind) (begins_tight e && is_chain e) a.0 (and_true (begins_tight e) (is_chain e) (u.tight b.0) (u.chain b.1));
+  row = λ h. let a = both (is_minus t.kind) (begins_tight d && is_chain d) h in let b = both (begins_tight d) (is_chain d) a.1 in
+      omega (arith, u.row b.1, tight_flat d b.0, tight_flat e (u.tight b.0));
+  few = λ h. let a = both (is_minus t.kind) (begins_tight d && is_chain d) h in u.few (both (begins_tight d) (is_chain d) a.1).1;
+  tight = λ h. cc;
+}
 
 binary_under : (l : Syntax) (t : Token) (e d : Syntax) → Under e d → Under (ending (binary l t) e) (ending (binary l t) d)
 binary_under l t e d u = record {
-    tall = omega (arith, u.tall); plain = λ h. refl;
-    chain = λ h. let c = parts h in and_true (is_minus t.kind && t.spaced) ((begins_tight e && is_chain e) && is_chain l) c.0
-        (and_true (begins_tight e && is_chain e) (is_chain l) (and_true (begins_tight e) (is_chain e) (u.tight c.1) (u.chain c.2)) c.3);
-    row = λ h. let c = parts h in omega (arith, binary_row l t e, binary_row l t d, u.row c.2, tight_flat d c.1, tight_flat e (u.tight c.1));
-    few = λ h. let c = parts h in omega (arith, binary_count l t e, binary_count l t d, u.few c.2);
-    tight = λ h. cc }
+  tall = omega (arith, u.tall);
+  plain = λ h. refl;
+  chain = λ h. let c = parts h in and_true (is_minus t.kind && t.spaced) ((begins_tight e && is_chain e) && is_chain l) c.0
+      (and_true (begins_tight e && is_chain e) (is_chain l) (and_true (begins_tight e) (is_chain e) (u.tight c.1) (u.chain c.2)) c.3);
+  row = λ h. let c = parts h in omega (arith, binary_row l t e, binary_row l t d, u.row c.2, tight_flat d c.1, tight_flat e (u.tight c.1));
+  few = λ h. let c = parts h in omega (arith, binary_count l t e, binary_count l t d, u.few c.2);
+  tight = λ h. cc;
+}
   where
-  parts : is_chain (ending (binary l t) d) ≡ true → ((is_minus t.kind && t.spaced) ≡ true) × (begins_tight d ≡ true) × (is_chain d ≡ true) × (is_chain l ≡ true)
-  parts h =
-      let a = both (is_minus t.kind && t.spaced) ((begins_tight d && is_chain d) && is_chain l) h in
-      let b = both (begins_tight d && is_chain d) (is_chain l) a.1 in
-      let c = both (begins_tight d) (is_chain d) b.0 in
-      (a.0, c.0, c.1, b.1)
+    parts : is_chain (ending (binary l t) d) ≡ true → ((is_minus t.kind && t.spaced) ≡ true) × (begins_tight d ≡ true) × (is_chain d ≡ true) × (is_chain l ≡ true)
+    parts h =
+        let a = both (is_minus t.kind && t.spaced) ((begins_tight d && is_chain d) && is_chain l) h in
+        let b = both (begins_tight d && is_chain d) (is_chain l) a.1 in
+        let c = both (begins_tight d) (is_chain d) b.0 in
+        (a.0, c.0, c.1, b.1)
 
 pub ending_under : (h : Head) (e d : Syntax) → Under e d → Under (ending h e) (ending h d)
 ending_under (unary t) e d u = unary_under t e d u
@@ -195,11 +201,13 @@ ending_under (keyword n t) e d u = flat_under (ending (keyword n t) e) (ending (
 
 pub called_under : (f : Syntax) (o : Token) (e d : Syntax) (c z : Token) → Under e d → Under (bracket (called f) o none (just e) c) (bracket (called f) o none (just d) z)
 called_under f o e d c z u = record {
-    tall = omega (arith, u.tall); plain = λ h. refl;
-    chain = λ h. let a = both (o.spaced && is_plain d) (is_chain f) h in let b = both o.spaced (is_plain d) a.0 in and_true (o.spaced && is_plain e) (is_chain f) (and_true o.spaced (is_plain e) b.0 (u.plain b.1)) a.1;
-    row = λ h. omega (arith, called_row f o none (just e) c, called_row f o none (just d) z, u.tall);
-    few = λ h. omega (arith, count_with (cells_of f) None (bracket grouped o none (just e) c), count_with (cells_of f) None (bracket grouped o none (just d) z));
-    tight = λ h. h }
+  tall = omega (arith, u.tall);
+  plain = λ h. refl;
+  chain = λ h. let a = both (o.spaced && is_plain d) (is_chain f) h in let b = both o.spaced (is_plain d) a.0 in and_true (o.spaced && is_plain e) (is_chain f) (and_true o.spaced (is_plain e) b.0 (u.plain b.1)) a.1;
+  row = λ h. omega (arith, called_row f o none (just e) c, called_row f o none (just d) z, u.tall);
+  few = λ h. omega (arith, count_with (cells_of f) None (bracket grouped o none (just e) c), count_with (cells_of f) None (bracket grouped o none (just d) z));
+  tight = λ h. h;
+}
 
 grouped_under : (o : Token) (e d : Syntax) (c z : Token) → height e ≤ height d → Under (bracket grouped o none (just e) c) (bracket grouped o none (just d) z)
 grouped_under o e d c z u = record { tall = omega arith; plain = λ h. refl; chain = λ h. refl; row = λ h. omega arith; few = λ h. omega arith; tight = λ h. cc }
@@ -207,34 +215,43 @@ grouped_under o e d c z u = record { tall = omega arith; plain = λ h. refl; cha
 -- a first element in brackets is at most as deep as its list
 pub row_shut_le : (o : Token) (e : Syntax) → height (shut_bracket itemed o none e) ≤ 1 + height e
 row_shut_le o e = elim (is_row e) as (λ x. is_row e ≡ x → height (if not x then bracket itemed o none (just e) (token CloseBracket) else shut_row o e) ≤ 1 + height e) [
-    true ↦ λ r. elim (is_full (cells_of e)) as (λ b. height (if b then matrix o (first_of e) (cells_of e) (token CloseBracket) else bracket itemed o (more e (token Comma) none) (just zero_leaf) (token CloseBracket)) ≤ 1 + height e) [
-        true ↦ omega (arith, row_le e (both (is_chain e) (is_long e) r).0) | false ↦ omega arith ]
-  | false ↦ λ r. omega arith ] refl
+  | true ↦ λ r. elim (is_full (cells_of e)) as (λ b. height (if b then matrix o (first_of e) (cells_of e) (token CloseBracket) else bracket itemed o (more e (token Comma) none) (just zero_leaf) (token CloseBracket)) ≤ 1 + height e) [
+    | true ↦ omega (arith, row_le e (both (is_chain e) (is_long e) r).0)
+    | false ↦ omega arith
+  ]
+  | false ↦ λ r. omega arith
+] refl
 
 -- and no deeper than the matrix of a row that it is under
 pub row_shut_row : (o : Token) (e d : Syntax) → Under e d → is_chain d ≡ true → is_full (cells_of d) ≡ true → height (shut_bracket itemed o none e) ≤ 1 + row_height d
 row_shut_row o e d u c f = elim (is_row e) as (λ x. is_row e ≡ x → height (if not x then bracket itemed o none (just e) (token CloseBracket) else shut_row o e) ≤ 1 + row_height d) [
-    true ↦ λ r. subst (λ b. height (if b then matrix o (first_of e) (cells_of e) (token CloseBracket) else bracket itemed o (more e (token Comma) none) (just zero_leaf) (token CloseBracket)) ≤ 1 + row_height d)
-        (sym (single_full e (omega (arith, u.few c, full_few (cells_of d) f)))) (omega (arith, u.row c))
-  | false ↦ λ r. omega (arith, short_row e (u.chain c) (short (is_chain e) (is_long e) (u.chain c) r), u.row c) ] refl
+  | true ↦ λ r. subst (λ b. height (if b then matrix o (first_of e) (cells_of e) (token CloseBracket) else bracket itemed o (more e (token Comma) none) (just zero_leaf) (token CloseBracket)) ≤ 1 + row_height d)
+      (sym (single_full e (omega (arith, u.few c, full_few (cells_of d) f)))) (omega (arith, u.row c))
+  | false ↦ λ r. omega (arith, short_row e (u.chain c) (short (is_chain e) (is_long e) (u.chain c) r), u.row c)
+] refl
   where
-  short : (a b : Bool) → a ≡ true → (a && b) ≡ false → b ≡ false
-  short true b h k = k
-  short false b h k = cc
+    short : (a b : Bool) → a ≡ true → (a && b) ≡ false → b ≡ false
+    short true b h k = k
+    short false b h k = cc
 
 pub row_shut_grows : (o : Token) (e d : Syntax) → Under e d → height (shut_bracket itemed o none e) ≤ height (shut_bracket itemed o none d)
 row_shut_grows o e d u = elim (is_row d) as (λ x. is_row d ≡ x → height (shut_bracket itemed o none e) ≤ height (if not x then bracket itemed o none (just d) (token CloseBracket) else shut_row o d)) [
-    true ↦ λ r. elim (is_full (cells_of d)) as (λ b. is_full (cells_of d) ≡ b → height (shut_bracket itemed o none e) ≤ height (if b then matrix o (first_of d) (cells_of d) (token CloseBracket) else bracket itemed o (more d (token Comma) none) (just zero_leaf) (token CloseBracket))) [
-        true ↦ λ f. row_shut_row o e d u (both (is_chain d) (is_long d) r).0 f
-      | false ↦ λ f. omega (arith, row_shut_le o e, u.tall) ] refl
-  | false ↦ λ r. omega (arith, row_shut_le o e, u.tall) ] refl
+  | true ↦ λ r. elim (is_full (cells_of d)) as (λ b. is_full (cells_of d) ≡ b → height (shut_bracket itemed o none e) ≤ height (if b then matrix o (first_of d) (cells_of d) (token CloseBracket) else bracket itemed o (more d (token Comma) none) (just zero_leaf) (token CloseBracket))) [
+    | true ↦ λ f. row_shut_row o e d u (both (is_chain d) (is_long d) r).0 f
+    | false ↦ λ f. omega (arith, row_shut_le o e, u.tall)
+  ] refl
+  | false ↦ λ r. omega (arith, row_shut_le o e, u.tall)
+] refl
 
 -- what a first element becomes is no row, and an expression
 pub row_shut_flat : (o : Token) (e : Syntax) → (is_chain (shut_bracket itemed o none e) ≡ false) × (begins_tight (shut_bracket itemed o none e) ≡ false) × (is_plain (shut_bracket itemed o none e) ≡ true)
 row_shut_flat o e = elim (is_row e) as (λ x. let y = if not x then bracket itemed o none (just e) (token CloseBracket) else shut_row o e in (is_chain y ≡ false) × (begins_tight y ≡ false) × (is_plain y ≡ true)) [
-    true ↦ elim (is_full (cells_of e)) as (λ b. let y = if b then matrix o (first_of e) (cells_of e) (token CloseBracket) else bracket itemed o (more e (token Comma) none) (just zero_leaf) (token CloseBracket) in (is_chain y ≡ false) × (begins_tight y ≡ false) × (is_plain y ≡ true)) [
-        true ↦ (refl, refl, refl) | false ↦ (refl, refl, refl) ]
-  | false ↦ (refl, refl, refl) ]
+  | true ↦ elim (is_full (cells_of e)) as (λ b. let y = if b then matrix o (first_of e) (cells_of e) (token CloseBracket) else bracket itemed o (more e (token Comma) none) (just zero_leaf) (token CloseBracket) in (is_chain y ≡ false) × (begins_tight y ≡ false) × (is_plain y ≡ true)) [
+    | true ↦ (refl, refl, refl)
+    | false ↦ (refl, refl, refl)
+  ]
+  | false ↦ (refl, refl, refl)
+]
 
 bracket_under : (b : Bracket) (o : Token) (es : Items) (e d : Syntax) → Under e d → Under (shut_bracket b o es e) (shut_bracket b o es d)
 bracket_under (called f) o none e d u = called_under f o e d (token CloseParen) (token CloseParen) u

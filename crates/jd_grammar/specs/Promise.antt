@@ -1,8 +1,9 @@
 -- What reading the tokens of a script promises.
-use Rattle.std.specs.Prelude.{ℕ, ◌≡◌, ◌≤◌, ◌<◌, ◌+◌, List, [], ◌++◌, length, take}
+use Rattle.std.specs.Prelude.{ℕ, ◌≡◌, ◌≤◌, ◌<◌, ◌+◌, List, [], ◌++◌, length, take, Option, Some, None, nat_le, if◌then◌else◌}
 use Rattle.jd_grammar.specs.declared.token.Token.{Token}
 use Rattle.jd_grammar.specs.Script.{Block, put_block, outermost, IsBlock}
-use Rattle.jd_grammar.specs.ScriptDepth.{depth, limit}
+use Rattle.jd_grammar.specs.Reader.{Config, start, run, finish}
+use Rattle.jd_grammar.specs.ScriptDepth.{depth, limit, needs}
 
 -- the script is in the grammar, and written with these tokens
 pub record Spells (ts : List Token) (s : Block) : Type 0 where
@@ -38,3 +39,37 @@ pub record IsTooDeepAt (ts : List Token) (k : ℕ) : Type 0 where
 pub record IsMisplacedAt (ts : List Token) (k : ℕ) : Type 0 where
   pub refused : IsRefusedAt ts k
   pub unlimited : k < length ts → IsPrefix (take (k + 1) ts) → ⊥
+
+-- ---- the machine's answer
+
+abbrev pub within_limit : Option Config → Option Block
+within_limit None = None
+within_limit (Some c) = if nat_le (needs c) limit then finish c else None
+
+-- the script that the machine reads, where it reads one within the limit
+abbrev pub reads : List Token → Option Block
+reads ts = within_limit (run ts start)
+
+-- ---- what holds of all tokens
+
+-- tokens are written for one script
+abbrev pub SpellOneScript : Type 0
+SpellOneScript = (ts : List Token) (s u : Block) → Spells ts s → Spells ts u → s ≡ u
+
+-- the machine reads exactly what the grammar spells
+abbrev pub ReadsWhatIsSpelled : Type 0
+ReadsWhatIsSpelled = (ts : List Token) (s : Block) → (reads ts ≡ Some s → SpellsWithin ts s) × (SpellsWithin ts s → reads ts ≡ Some s)
+
+-- it goes on exactly as far as some script does
+abbrev pub GoesAsFarAsScripts : Type 0
+GoesAsFarAsScripts = (ts : List Token) →
+    (IsPrefix ts → (c : Config) × (run ts start ≡ Some c)) × ((c : Config) → run ts start ≡ Some c → IsPrefix ts)
+
+-- and within the limit
+abbrev pub GoesAsDeepAsScripts : Type 0
+GoesAsDeepAsScripts = (ts : List Token) →
+    (IsPrefixWithin ts → (c : Config) × (run ts start ≡ Some c) × (needs c ≤ limit)) × ((c : Config) → run ts start ≡ Some c → needs c ≤ limit → IsPrefixWithin ts)
+
+-- tokens are refused at one place
+abbrev pub AreRefusedOnce : Type 0
+AreRefusedOnce = (ts : List Token) (j k : ℕ) → IsRefusedAt ts j → IsRefusedAt ts k → j ≡ k
