@@ -1,0 +1,12 @@
+pub mod Kinds
+pub mod Trees
+pub mod Rows
+pub mod Grammar
+pub mod Depth
+pub mod Frames
+pub mod Machine
+pub mod Shortest
+pub mod Script
+pub mod Reader
+pub mod ScriptDepth
+pub mod Promise
