@@ -12,6 +12,7 @@ use std::env;
 use std::time::Instant;
 
 const INDEXES: u64 = 1_000_000;
+
 const SLICES: u64 = 64;
 
 /// The wrapping sum of the parts and places of so many indexes of an array of 64 by 64 by 64.
@@ -55,7 +56,13 @@ fn sliced_cells(alloc: Global, array: &Array, slices: u64) -> anyhow::Result<u64
 fn main(rt: HostRuntime) -> anyhow::Result<()> {
     let alloc = rt.alloc();
     let timed = env::args(&rt)?.any(|word| word.as_str() == "times");
-    let layout = Layout::new(alloc, &[64, 64, 64], &[2, 3, 4, 5, 6, 7], &[1, 2, 3], &[2, 3, 4, 5, 6, 7])?;
+    let layout = Layout::new(
+        alloc,
+        &[64, 64, 64],
+        &[2, 3, 4, 5, 6, 7],
+        &[1, 2, 3],
+        &[2, 3, 4, 5, 6, 7],
+    )?;
     let start = Instant::now(&rt)?;
     let sum = sum_of_places(&layout, INDEXES);
     let located = start.elapsed(&rt)?;
@@ -66,7 +73,10 @@ fn main(rt: HostRuntime) -> anyhow::Result<()> {
     println!(rt; "located {INDEXES} indexes, sum {sum}")?;
     println!(rt; "copied {count} cells")?;
     if timed {
-        eprintln!(rt; "locate: {} ns an index", located.as_nanos() / INDEXES as u128)?;
+        eprintln!(rt;
+            "locate: {} ns an index",
+            located.as_nanos() / INDEXES as u128
+        )?;
         eprintln!(rt; "slice: {} us for {count} cells", copied.as_micros())?;
     }
     Ok(())
