@@ -22,3 +22,4 @@ pub mod ScriptNesting
 pub mod Limit
 pub mod Refuse
 pub mod Promises
+pub mod Profiles

@@ -8,6 +8,7 @@ use Rattle.jd_grammar.specs.Rows.{begins_tight, is_plain, is_chain, is_long, wit
 use Rattle.jd_grammar.specs.Frames.{Hold, spawning, rows, Fixed, in_bracket, in_middle, in_group, in_generator, in_size, in_place, Frame, open_end, fixed}
 use Rattle.jd_grammar.specs.Machine.{close, with_generator}
 use Rattle.jd_grammar.specs.Depth.{height, height_cells, height_items, height_maybe, height_generators}
+pub use Rattle.jd_grammar.specs.Profile.{row_height}
 use Rattle.jd_grammar.specs.Shortest.{token, zero_leaf, zero_token, fill, missing, filled_rows, held, shut_row, shut_bracket, shut, wrap}
 use Rattle.jd_grammar.proofs.RowFacts.{both, and_true, le_of, test_le, test_eq, count_with, count_joined, single_cells, single_even, single_width}
 
@@ -37,11 +38,7 @@ height_with_generator (generator s m j x gens) t n i e = omega (arith, height_wi
 
 -- ---- an expression as a row of atoms
 
--- the height of its atoms
-abbrev pub row_height : Syntax → ℕ
-row_height e = max (height (first_of e)) (height_cells (cells_of e))
-
-tight_flat : (e : Syntax) → begins_tight e ≡ true → height (first_of e) ≡ 0
+pub tight_flat : (e : Syntax) → begins_tight e ≡ true → height (first_of e) ≡ 0
 tight_flat (leaf t) h = refl
 tight_flat (bracket (called f) o es last c) h = tight_flat f h
 tight_flat (bracket grouped _ _ _ _) h = cc

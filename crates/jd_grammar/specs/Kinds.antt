@@ -32,6 +32,11 @@ abbrev pub is_least : Kind → Bool → Bool
 is_least (Wide b) spaced = b && not spaced
 is_least _ spaced = false
 
+-- a number that is no operand by itself
+abbrev pub is_wide : Kind → Bool
+is_wide (Wide b) = true
+is_wide _ = false
+
 -- ---- operators
 
 abbrev pub is_unary : Kind → Bool

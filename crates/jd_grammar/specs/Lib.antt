@@ -6,7 +6,9 @@ pub mod Depth
 pub mod Frames
 pub mod Machine
 pub mod Shortest
+pub mod Profile
 pub mod Script
 pub mod Reader
 pub mod ScriptDepth
+pub mod Forms
 pub mod Promise

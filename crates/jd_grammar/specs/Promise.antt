@@ -1,6 +1,7 @@
 -- What reading the tokens of a script promises.
-use Rattle.std.specs.Prelude.{ℕ, ◌≡◌, ◌≤◌, ◌<◌, ◌+◌, List, [], ◌++◌, length, take, Option, Some, None, nat_le, if◌then◌else◌}
+use Rattle.std.specs.Prelude.{ℕ, ◌≡◌, ◌≤◌, ◌<◌, ◌+◌, List, [], ◌++◌, length, take, slice_get, Option, Some, None, option_map, unwrap_or, false, IsTrue, nat_le, if◌then◌else◌}
 use Rattle.jd_grammar.specs.declared.token.Token.{Token}
+use Rattle.jd_grammar.specs.Kinds.{is_wide}
 use Rattle.jd_grammar.specs.Script.{Block, put_block, outermost, IsBlock}
 use Rattle.jd_grammar.specs.Reader.{Config, start, run, finish}
 use Rattle.jd_grammar.specs.ScriptDepth.{depth, limit, needs}
@@ -28,6 +29,11 @@ pub record IsRefusedAt (ts : List Token) (k : ℕ) : Type 0 where
   pub before : IsPrefixWithin (take k ts)
   pub after : k < length ts → IsPrefixWithin (take (k + 1) ts) → ⊥
   pub no_script : (s : Block) → SpellsWithin ts s → ⊥
+
+-- the token at k is a number that is too large where it stands
+pub record IsTooLargeAt (ts : List Token) (k : ℕ) : Type 0 where
+  pub refused : IsRefusedAt ts k
+  pub number : IsTrue (unwrap_or (option_map (λ (t : Token). is_wide t.kind) (slice_get ts k)) false)
 
 -- The token at k nests too deep: without a limit the tokens up to it may become a script.
 pub record IsTooDeepAt (ts : List Token) (k : ℕ) : Type 0 where
