@@ -7,10 +7,10 @@ use Rattle.jd_syntax.specs.Answers.{RefusesAs}
 use Rattle.jd_syntax.specs.declared.parsing.TheConstants.{MAX_SCRIPT}
 use Rattle.jd_syntax.specs.declared.parsing.ParseKind.{ParseKind}
 use Rattle.jd_syntax.specs.declared.parsing.ParseKind.TheVariants as kind
-use Rattle.jd_engine.specs.declared.lower.Line.{Line}
+use Rattle.jd_value.specs.declared.tree.Program.{Program}
 use Rattle.jd_engine.specs.declared.status.Ending.{Ending}
 use Rattle.jd_engine.specs.declared.status.Ending.TheVariants as ending
-use Rattle.jd_engine.specs.Endings.{Loads}
+use Rattle.jd_engine.specs.Loading.{Loads}
 
 module _ (m : ℕ) (content : List ℕ) where
   whole : length (take (m + 1) content) ≤ m → take (m + 1) content ≡ content
@@ -27,14 +27,18 @@ refuses_whole content line kind.Token h = absurd h
 refuses_whole content line kind.WideNumber h = absurd h
 refuses_whole content line kind.TooDeep h = absurd h
 
-pub loads_whole : (content : List ℕ) (r : Result (List Line) Ending) → Loads (take (MAX_SCRIPT + 1) content) r → Loads content r
-loads_whole content (Ok lines) h = (h.0, subst (λ c. Spells c h.0) (whole MAX_SCRIPT content h.1.short) h.1, h.2)
+pub loads_whole : (content : List ℕ) (r : Result Program Ending) → Loads (take (MAX_SCRIPT + 1) content) r → Loads content r
+loads_whole content (Ok program) h =
+    record { script = h.script; spelled = subst (λ c. Spells c h.script) (whole MAX_SCRIPT content h.spelled.short) h.spelled; means = h.means }
 loads_whole content (Err ending.Done) h = absurd h
-loads_whole content (Err (ending.ScriptError f)) h = absurd h
+loads_whole content (Err (ending.ScriptError text)) h = absurd h
 loads_whole content (Err ending.Usage) h = absurd h
 loads_whole content (Err (ending.ScriptRefused line k)) h = refuses_whole content line k h
 loads_whole content (Err ending.ReadFault) h = h
 loads_whole content (Err ending.WriteFault) h = absurd h
+loads_whole content (Err ending.FabricFault) h = absurd h
+loads_whole content (Err ending.Limit) h = absurd h
+loads_whole content (Err ending.Stalled) h = absurd h
 loads_whole content (Err ending.OutOfMemory) h = h
 
 -- told files, an open name, and what was read of it

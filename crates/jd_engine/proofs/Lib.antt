@@ -1,6 +1,6 @@
 pub mod Contents
-pub mod Lines
+pub mod Digits
 pub mod Lowered
 pub mod Pieces
 pub mod Purity
-pub mod Values
+pub mod Ran

@@ -12,8 +12,10 @@ use Rattle.jd_grammar.specs.declared.token.Name.TheVariants as name
 use Rattle.jd_grammar.specs.declared.token.Word.TheVariants as word
 use Rattle.jd_syntax.specs.Grammar.{Syntax, leaf, unary, binary, listed, Commas, none, more, Maybe, nothing, just, Line as Written, Script, strength, IsAt, AreAt, IsAtMaybe, IsLine, AreLines, IsBlock}
 use Rattle.jd_syntax.specs.Pure.{is_number, is_text, is_bound, is_division, is_wide_least, is_least, is_leaf_of, is_sum, is_last_sum, is_argument, are_arguments, are_printed, is_print, is_println, is_pure_line, are_pure_lines, is_pure, is_last_leaf_of, is_int}
-use Rattle.jd_engine.specs.declared.lower.Line.{Line}
-use Rattle.jd_engine.specs.Lowering.{least, greatest, text, operator, function, bound, leaf_expr, of_one, of_two, of_pair, cons, grouped, called, called_by, head_kind, expr_of, exprs_of, last_of, line, line_of, line_at, cons_line, lines_of, lowered}
+use Rattle.jd_value.specs.declared.operation.Operation.TheVariants as operation
+use Rattle.jd_value.specs.declared.tree.Stmt.{Stmt}
+use Rattle.jd_value.specs.declared.tree.Stmt.TheVariants as statement
+use Rattle.jd_engine.specs.Lowering.{least, greatest, text, operator, function, bound, leaf_expr, of_one, of_two, of_pair, cons, grouped, called, called_by, head_kind, expr_of, exprs_of, last_of, line, line_of, line_at, cons_line, lines_of, answer, statements, program_of, lowered}
 
 and_left : (p q : Bool) → p && q ≡ true → p ≡ true
 and_left true q h = refl
@@ -152,7 +154,7 @@ printed_hold texts most (just x) gm gl h =
 
 line_holds : (texts : List (List ℕ)) (x : Syntax) → IsAt 0 x → is_print x ≡ true → Holds (line_of texts x)
 line_holds texts (listed (just f) o most last c) g h =
-    let xs = printed_hold texts most last g.2 g.3 (and_right (is_leaf_of is_println f) (are_printed most last) h) in (record { args = xs.0 }, ap line xs.1)
+    let xs = printed_hold texts most last g.2 g.3 (and_right (is_leaf_of is_println f) (are_printed most last) h) in (statement.Effect answer operation.Print None xs.0, ap line xs.1)
 line_holds texts (listed nothing o most last c) g h = cc
 line_holds texts (leaf t) g h = cc
 line_holds texts (unary t x) g h = cc
@@ -162,20 +164,20 @@ at_holds : (texts : List (List ℕ)) (x : Option Syntax) → IsLine x → is_pur
 at_holds texts None g h = (None, refl)
 at_holds texts (Some x) g h = let l = line_holds texts x g h in (Some l.0, ap (option_map Some) l.1)
 
-cons_line_holds : (l : Option (Option Line)) (ls : Option (List Line)) → Holds l → Holds ls → Holds (cons_line l ls)
+cons_line_holds : (l : Option (Option Stmt)) (ls : Option (List Stmt)) → Holds l → Holds ls → Holds (cons_line l ls)
 cons_line_holds l ls (None, hl) hs = (hs.0, ap (λ k. cons_line k ls) hl ∙ hs.1)
 cons_line_holds l ls (Some x, hl) hs = (x ∷ hs.0, ap (λ k. cons_line k ls) hl ∙ ap (cons_line (Some (Some x))) hs.1)
 
-lines_hold : (texts : List (List ℕ)) (ls : List Written) (others : Option (List Line)) → AreLines ls → are_pure_lines ls ≡ true → Holds others → Holds (lines_of texts ls others)
+lines_hold : (texts : List (List ℕ)) (ls : List Written) (others : Option (List Stmt)) → AreLines ls → are_pure_lines ls ≡ true → Holds others → Holds (lines_of texts ls others)
 lines_hold texts [] others g h o = o
 lines_hold texts (l ∷ ls) others g h o =
     cons_line_holds (line_at texts l.expr) (lines_of texts ls others) (at_holds texts l.expr g.0 (and_left (is_pure_line l.expr) (are_pure_lines ls) h))
     (lines_hold texts ls others g.2 (and_right (is_pure_line l.expr) (are_pure_lines ls) h) o)
 
-pub is_lowered : (s : Script) → IsBlock s.block → is_pure s.block ≡ true → Holds (lowered s)
-is_lowered s g h =
+has_statements : (s : Script) → IsBlock s.block → is_pure s.block ≡ true → Holds (statements s)
+has_statements s g h =
     lines_hold s.texts s.block.lines (cons_line (line_at s.texts s.block.last) (Some [])) g.0 (and_left (are_pure_lines s.block.lines) (is_pure_line s.block.last) h)
     (cons_line_holds (line_at s.texts s.block.last) (Some []) (at_holds s.texts s.block.last g.1 (and_right (are_pure_lines s.block.lines) (is_pure_line s.block.last) h)) ([], refl))
 
 pub never_refused : (s : Script) → IsBlock s.block → is_pure s.block ≡ true → lowered s ≡ None → ⊥
-never_refused s g h n = let l = is_lowered s g h in let e : Some l.0 ≡ None = sym l.1 ∙ n in cc
+never_refused s g h n = let l = has_statements s g h in let e : Some (program_of l.0) ≡ None = sym (ap (option_map program_of) l.1) ∙ n in cc

@@ -1,3 +1,5 @@
+pub mod Words
 pub mod Endings
+pub mod Loading
+pub mod Headline
 pub mod Lowering
-pub mod Output

@@ -1,5 +1,5 @@
--- The expressions that the lines of a pure script print.
-use Rattle.std.specs.Prelude.{◌≡◌, ℕ, ℤ, pos, negsuc, if◌then◌else◌, List, [], ◌∷◌, Option, Some, None, Result, Ok, Err, slice_get, option_map}
+-- The program of a script whose lines print.
+use Rattle.std.specs.Prelude.{◌≡◌, ℕ, ℤ, pos, negsuc, if◌then◌else◌, List, [], ◌∷◌, Option, Some, None, Result, Ok, Err, slice_get, option_map, codes}
 use Rattle.std.specs.Int.{w64, cast_signed}
 use Rattle.jd_value.specs.declared.expr.Expr.{Expr}
 use Rattle.jd_value.specs.declared.expr.Expr.TheVariants as e
@@ -10,7 +10,12 @@ use Rattle.jd_grammar.specs.declared.token.Kind.TheVariants as kind
 use Rattle.jd_grammar.specs.declared.token.Name.TheVariants as name
 use Rattle.jd_grammar.specs.declared.token.Word.TheVariants as word
 use Rattle.jd_syntax.specs.Grammar.{Syntax, leaf, unary, binary, listed, Commas, none, more, Maybe, nothing, just, Line as Written, Script}
-use Rattle.jd_engine.specs.declared.lower.Line.{Line}
+use Rattle.jd_value.specs.declared.operation.Operation.TheVariants as operation
+use Rattle.jd_value.specs.declared.tree.Stmt.{Stmt}
+use Rattle.jd_value.specs.declared.tree.Stmt.TheVariants as statement
+use Rattle.jd_value.specs.declared.tree.Body.{roll-Body}
+use Rattle.jd_value.specs.declared.tree.Block.{roll-Block}
+use Rattle.jd_value.specs.declared.tree.Program.{Program}
 use Rattle.jd_engine.specs.declared.lower.LowerFault.{LowerFault}
 use Rattle.jd_engine.specs.declared.lower.LowerFault.TheVariants.{NotPure, OutOfMemory}
 
@@ -110,33 +115,44 @@ abbrev mutual
   last_of texts nothing = Some []
   last_of texts (just x) = cons (expr_of texts x) (Some [])
 
-abbrev pub line : Option (List Expr) → Option Line
+-- The answer of printing, which no script can name.
+abbrev pub answer : List ℕ
+answer = codes "%1"
+
+abbrev pub line : Option (List Expr) → Option Stmt
 line None = None
-line (Some args) = Some (record { args = args })
+line (Some args) = Some (statement.Effect answer operation.Print None args)
 
 -- The arguments of a call of `println`.
-abbrev pub line_of : List (List ℕ) → Syntax → Option Line
+abbrev pub line_of : List (List ℕ) → Syntax → Option Stmt
 line_of texts (listed (just f) o most last c) = line (exprs_of texts most (last_of texts last))
 line_of texts _ = None
 
 -- An empty line prints nothing.
-abbrev pub line_at : List (List ℕ) → Option Syntax → Option (Option Line)
+abbrev pub line_at : List (List ℕ) → Option Syntax → Option (Option Stmt)
 line_at texts None = Some None
 line_at texts (Some x) = option_map Some (line_of texts x)
 
-abbrev pub cons_line : Option (Option Line) → Option (List Line) → Option (List Line)
+abbrev pub cons_line : Option (Option Stmt) → Option (List Stmt) → Option (List Stmt)
 cons_line None ls = None
 cons_line (Some None) ls = ls
 cons_line (Some (Some l)) None = None
 cons_line (Some (Some l)) (Some ls) = Some (l ∷ ls)
 
-abbrev pub lines_of : List (List ℕ) → List Written → Option (List Line) → Option (List Line)
+abbrev pub lines_of : List (List ℕ) → List Written → Option (List Stmt) → Option (List Stmt)
 lines_of texts [] others = others
 lines_of texts (l ∷ ls) others = cons_line (line_at texts l.expr) (lines_of texts ls others)
 
--- The lines of a script, each with what it prints.
-abbrev pub lowered : Script → Option (List Line)
-lowered s = lines_of s.texts s.block.lines (cons_line (line_at s.texts s.block.last) (Some []))
+-- What the lines of a script print, in their order.
+abbrev pub statements : Script → Option (List Stmt)
+statements s = lines_of s.texts s.block.lines (cons_line (line_at s.texts s.block.last) (Some []))
+
+abbrev pub program_of : List Stmt → Program
+program_of stmts = record { body = roll-Body (record { number = 0; parameters = []; block = roll-Block (record { stmts = stmts }) }) }
+
+-- The program of a script.
+abbrev pub lowered : Script → Option Program
+lowered s = option_map program_of (statements s)
 
 -- What a function lowered, unless memory ran out.
 abbrev pub Lowers : {A : Type 0} → Option A → Result A LowerFault → Type 0

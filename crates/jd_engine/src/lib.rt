@@ -1,18 +1,19 @@
-//! The top call of the program: it runs a script and says how that ended.
+//! The top call of the program: it runs a script on a cluster and says how that ended.
 //!
-//! `sim` reads the file that the words name, parses it, evaluates its lines and writes what they print. Its contract is
-//! the headline in its smallest form: what is written is the printed text of the lines before the first that faults, and
-//! each status has its cause. The crate stands on jd_source, jd_syntax, jd_value and jd_expr.
+//! `sim` reads the file that the words name, parses and lowers it, runs the program on a simulated cluster and writes
+//! what it prints. Its contract is the headline: what is written are the lines of the reference machine that takes the
+//! run's recorded effects in their order, and each status has its cause. The crate stands on jd_session, jd_syntax
+//! and what these stand on.
 #![tactic(auto)]
 
 mod load;
 mod lower;
-mod print;
 mod report;
 mod simulate;
 mod status;
 #[cfg(test)]
 mod tests;
+mod words;
 
 pub use simulate::sim;
 pub use status::Status;

@@ -1,50 +1,34 @@
-//! From the words to the lines of the script.
-ghost use Rattle.std.specs.Prelude.{◌≡◌, ◌≤◌, ◌+◌, ℕ, List, Some, Err, IfErr, OnOk, length, option_map, IsTrue};
+//! From a file to a program.
+ghost use Rattle.std.specs.Prelude.{◌≡◌, ◌≤◌, ◌+◌, ℕ, List, Some, Err, IfErr, OnOk, length, IsTrue};
 ghost use Rattle.jd_source.specs.Counts.{Rose};
 ghost use Rattle.jd_source.specs.Content.{content_of, AsksAtMost, TakesAtMost};
 ghost use Rattle.jd_syntax.specs.Grammar.{IsBlock};
 ghost use Rattle.jd_syntax.specs.Plain.{plain_script};
 ghost use Rattle.jd_syntax.specs.Pure.{is_pure};
-ghost use Rattle.jd_engine.specs.Endings.{file_of, Loads, IsLoaded, IsLoadEnding, LowersTo};
+ghost use Rattle.jd_engine.specs.Loading.{Loads, IsLoaded, IsLoadEnding, LowersTo};
 
-use crate::lower::{Line, LowerFault, lower};
+use crate::lower::{LowerFault, lower};
 use crate::status::Ending;
 use jd_source::{Opener, ReadFault, read_up_to};
 use jd_syntax::tree::Script;
-use jd_syntax::{MAX_SCRIPT, ParseFault, ParseKind, parse};
-use sqlite_items::Items;
+use jd_syntax::{MAX_SCRIPT, ParseFault, parse};
+use jd_value::Program;
 use std::alloc::Global;
 
-/// The file that the words `sim FILE` name.
-pub fn file_name(words: &[String]) -> Option<&str>
-    ensures { option_map (λ n. n.now) result ≡ file_of words.now }
-{
-    match words {
-        [command, file] => {
-            if command.as_str() == "sim" {
-                Some(file.as_str())
-            } else {
-                None
-            }
-        }
-        _ => None,
-    }
-}
-
 // A script that was parsed is pure, so that it is always lowered.
-fn lowered(alloc: Global, script: &Script) -> Result<Items<Line>, Ending>
+fn lowered(alloc: Global, script: &Script) -> Result<Program, Ending>
     requires grammar { IsBlock (plain_script script.now).block }
     requires pure { IsTrue (is_pure (plain_script script.now).block) }
     ensures { LowersTo (plain_script script.now) result }
 {
     match lower(alloc, script) {
-        Ok(lines) => Ok(lines),
+        Ok(program) => Ok(program),
         Err(LowerFault::NotPure) => unreachable!(),
         Err(LowerFault::OutOfMemory) => Err(Ending::OutOfMemory),
     }
 }
 
-fn parsed(alloc: Global, bytes: &[u8]) -> Result<Items<Line>, Ending>
+fn parsed(alloc: Global, bytes: &[u8]) -> Result<Program, Ending>
     ensures loads { Loads bytes.now result }
     ensures fails { IfErr result IsLoadEnding }
     ensures short { OnOk result (length bytes.now ≤ MAX_SCRIPT) }
@@ -57,9 +41,8 @@ fn parsed(alloc: Global, bytes: &[u8]) -> Result<Items<Line>, Ending>
     }
 }
 
-/// The lines of the script under a name, which is asked for once. At most one byte more than the longest script is
-/// read.
-pub fn load<S: Opener>(alloc: Global, name: &str, source: &mut S) -> Result<Items<Line>, Ending>
+/// The program in the file of a name, which is asked for once. At most one byte more than the longest script is read.
+pub fn load<S: Opener>(alloc: Global, name: &str, source: &mut S) -> Result<Program, Ending>
     ensures loads { (kept : List (List ℕ × List ℕ)) (content : List ℕ) → S.files source.old ≡ Some kept → content_of kept name.now ≡ Some content → Loads content result }
     ensures fails { IfErr result IsLoadEnding }
     ensures cause { result ≡ Err Ending.ReadFault → Rose (S.faults source.old) (S.faults source.new) }

@@ -1,26 +1,23 @@
-//! From the tree of a pure script to the expressions that its lines print.
-ghost use Rattle.std.specs.Prelude.{◌≡◌, Some, option_map, slice_get};
+//! From the tree of a script whose lines print to its program.
+ghost use Rattle.std.specs.Prelude.{◌≡◌, Some, option_map, slice_get, IfOk};
 ghost use Rattle.jd_syntax.specs.Plain.{plain, plain_listing, plain_script};
-ghost use Rattle.jd_engine.specs.Lowering.{text, operator, function, bound, leaf_expr, expr_of, of_one, of_two, of_pair, exprs_of, last_of, called_by, grouped, line_of, line_at, lowered, Lowers};
+ghost use Rattle.jd_engine.specs.Lowering.{text, operator, function, bound, leaf_expr, expr_of, of_one, of_two, of_pair, exprs_of, last_of, called_by, grouped, line, line_of, line_at, statements, program_of, lowered, Lowers};
 ghost use Rattle.jd_engine.specs.declared.lower.LowerFault.TheVariants.{OutOfMemory as Refused};
 
 use jd_grammar::token::{Kind, Name, Word};
 use jd_syntax::tree as syntax;
 use jd_syntax::tree::{Listing, Script, Text};
-use jd_value::{Builtin, Expr, OutOfMemory, Shared, Txt};
+use jd_value::{Block, Body, Builtin, Expr, Operation, OutOfMemory, Program, Shared, Stmt, Txt};
 use sqlite_items::{Items, at};
 use std::alloc::{AllocError, Global};
 
-/// A line of a pure script: `println` of these arguments.
-#[derive(Drop)]
-pub struct Line {
-    pub args: Items<Expr>,
-}
+/// The variable of what printing answers. No script can name it.
+const ANSWER: &[u8] = b"%1";
 
 /// Why a tree wasn't lowered.
 #[derive(Debug, Drop)]
 pub enum LowerFault {
-    /// The tree is no pure script.
+    /// A line does something else than printing.
     NotPure,
     OutOfMemory,
 }
@@ -196,13 +193,20 @@ fn lower_expr(alloc: Global, texts: &[Text], x: &syntax::Expr) -> Result<Expr, L
     }
 }
 
-fn lower_line(alloc: Global, texts: &[Text], x: &syntax::Expr) -> Result<Line, LowerFault>
+fn printing(alloc: Global, args: Items<Expr>) -> Result<Stmt, LowerFault>
+    ensures { Lowers (line (Some args)) result }
+{
+    let answer = Shared::new(alloc, Txt::from_bytes(alloc, ANSWER)?)?;
+    Ok(Stmt::Effect(answer, Operation::Print, None, args))
+}
+
+fn lower_line(alloc: Global, texts: &[Text], x: &syntax::Expr) -> Result<Stmt, LowerFault>
     ensures { Lowers (line_of texts.now (plain x.now)) result }
 {
     match x {
         syntax::Expr::Call(_, listing) => {
             let args = lower_args(alloc, texts, listing.get())?;
-            Ok(Line { args })
+            printing(alloc, args)
         }
         _ => Err(LowerFault::NotPure),
     }
@@ -212,7 +216,7 @@ fn lower_written(
     alloc: Global,
     texts: &[Text],
     x: &Option<syntax::Expr>,
-) -> Result<Option<Line>, LowerFault>
+) -> Result<Option<Stmt>, LowerFault>
     ensures { Lowers (line_at texts.now (option_map plain x.now)) result }
 {
     match x {
@@ -221,9 +225,8 @@ fn lower_written(
     }
 }
 
-/// The lines of a pure script. Any other tree is `NotPure`.
-pub fn lower(alloc: Global, script: &Script) -> Result<Items<Line>, LowerFault>
-    ensures { Lowers (lowered (plain_script script.now)) result }
+fn statements(alloc: Global, script: &Script) -> Result<Items<Stmt>, LowerFault>
+    ensures { Lowers (statements (plain_script script.now)) result }
 {
     let texts = script.texts.as_slice();
     let mut lines = Items::new(alloc);
@@ -236,4 +239,24 @@ pub fn lower(alloc: Global, script: &Script) -> Result<Items<Line>, LowerFault>
         lines.push(line)?;
     }
     Ok(lines)
+}
+
+fn program_of(alloc: Global, stmts: Items<Stmt>) -> Result<Program, OutOfMemory>
+    ensures { IfOk result (λ program. program ≡ program_of stmts) }
+{
+    Ok(Program {
+        body: Body {
+            number: 0,
+            parameters: Shared::new(alloc, Items::new(alloc))?,
+            block: Shared::new(alloc, Block { stmts })?,
+        },
+    })
+}
+
+/// The program of a script whose lines print. Any other tree is `NotPure`.
+pub fn lower(alloc: Global, script: &Script) -> Result<Program, LowerFault>
+    ensures { Lowers (lowered (plain_script script.now)) result }
+{
+    let stmts = statements(alloc, script)?;
+    Ok(program_of(alloc, stmts)?)
 }

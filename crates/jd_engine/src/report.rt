@@ -9,7 +9,6 @@ use crate::status::Ending;
 use itoa::Buffer;
 use jd_source::{Failed, Sink, write_whole};
 use jd_syntax::ParseKind;
-use jd_value::fault_text;
 
 fn kind_bytes(kind: ParseKind) -> &'static [u8]
     ensures { result.now ≡ kind_text kind }
@@ -82,11 +81,14 @@ fn line<E: Sink>(err: &mut E, ending: &Ending) -> Result<(), Failed>
 {
     match ending {
         Ending::Done => Ok(()),
-        Ending::ScriptError(fault) => three(err, b"ERROR: ", fault_text(fault), b"\n"),
+        Ending::ScriptError(text) => three(err, b"ERROR: ", text.as_bytes(), b"\n"),
         Ending::Usage => two(err, b"usage: jd sim, run or gen, see the manual", b"\n"),
         Ending::ScriptRefused { line, kind } => refusal(err, *line, *kind),
         Ending::ReadFault => two(err, b"READ FAULT", b"\n"),
         Ending::WriteFault => two(err, b"WRITE FAULT", b"\n"),
+        Ending::FabricFault => two(err, b"FABRIC FAULT", b"\n"),
+        Ending::Limit => two(err, b"LIMIT", b"\n"),
+        Ending::Stalled => two(err, b"STALLED", b"\n"),
         Ending::OutOfMemory => two(err, b"OUT OF MEMORY", b"\n"),
     }
 }

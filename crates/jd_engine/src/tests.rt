@@ -1,6 +1,7 @@
 //! Whole runs over objects in memory: the worked examples, which statuses come, and that enough memory suffices.
 use crate::{Status, sim};
-use jd_source::{MemFile, MemSink, MemSource};
+use jd_source::{MemFile, MemSink, MemSource, NoPause};
+use jd_world::ListFabric;
 use std::alloc::{AllocError, Global};
 use std::test::Fail;
 
@@ -113,18 +114,33 @@ fn words(alloc: Global, all: &[&str]) -> Result<Vec<String>, AllocError> {
     Ok(words)
 }
 
+/// The call over a fresh fabric.
+fn over_fresh_fabric(
+    alloc: Global,
+    words: &[String],
+    script: &mut MemSource,
+    out: &mut MemSink,
+    err: &mut MemSink,
+) -> Status {
+    let mut fabric = ListFabric::new(alloc);
+    sim(alloc, words, script, out, err, &mut fabric, &mut NoPause)
+}
+
 #[test]
 fn scripts_print_their_lines(rt: HostRuntime) -> Result<(), Fail> {
     let alloc = rt.alloc();
-    let words = words(alloc, &["sim", "FILE"])?;
-    for run in &RUNS {
-        let mut script = source(alloc, run.script, &[])?;
-        let mut out = sink(alloc, &[])?;
-        let mut err = sink(alloc, &[])?;
-        let status = sim(alloc, words.as_slice(), &mut script, &mut out, &mut err);
-        assert_eq!(rt; out.bytes(), run.out);
-        assert_eq!(rt; err.bytes(), run.err);
-        assert_eq!(rt; status, run.status);
+    let alone = words(alloc, &["sim", "FILE"])?;
+    let with_worker = words(alloc, &["sim", "-p", "1", "FILE"])?;
+    for row in &RUNS {
+        for words in [alone.as_slice(), with_worker.as_slice()] {
+            let mut script = source(alloc, row.script, &[])?;
+            let mut out = sink(alloc, &[])?;
+            let mut err = sink(alloc, &[])?;
+            let status = over_fresh_fabric(alloc, words, &mut script, &mut out, &mut err);
+            assert_eq!(rt; out.bytes(), row.out);
+            assert_eq!(rt; err.bytes(), row.err);
+            assert_eq!(rt; status, row.status);
+        }
     }
     Ok(())
 }
@@ -136,14 +152,14 @@ fn a_failing_sink_or_source_ends_the_run(rt: HostRuntime) -> Result<(), Fail> {
     let mut script = source(alloc, b"println(1); println(2)", &[])?;
     let mut out = sink(alloc, &[2])?;
     let mut err = sink(alloc, &[1])?;
-    let status = sim(alloc, words.as_slice(), &mut script, &mut out, &mut err);
+    let status = over_fresh_fabric(alloc, words.as_slice(), &mut script, &mut out, &mut err);
     assert_eq!(rt; status, Status::WriteFault);
     assert_eq!(rt; out.bytes(), b"1\n".as_slice());
     assert_eq!(rt; err.bytes(), b"".as_slice());
     let mut unread = source(alloc, b"println(1)", &[2])?;
     let mut other = sink(alloc, &[])?;
     let mut told = sink(alloc, &[])?;
-    let status = sim(alloc, words.as_slice(), &mut unread, &mut other, &mut told);
+    let status = over_fresh_fabric(alloc, words.as_slice(), &mut unread, &mut other, &mut told);
     assert_eq!(rt; status, Status::ReadFault);
     assert_eq!(rt; other.bytes(), b"".as_slice());
     assert_eq!(rt; told.bytes(), b"READ FAULT\n".as_slice());
@@ -153,22 +169,26 @@ fn a_failing_sink_or_source_ends_the_run(rt: HostRuntime) -> Result<(), Fail> {
 #[test]
 fn other_words_are_usage(rt: HostRuntime) -> Result<(), Fail> {
     let alloc = rt.alloc();
-    let mut script = source(alloc, b"println(1)", &[])?;
-    let mut out = sink(alloc, &[])?;
-    let mut err = sink(alloc, &[])?;
-    let none = words(alloc, &[])?;
-    assert_eq!(rt;
-        sim(alloc, none.as_slice(), &mut script, &mut out, &mut err),
-        Status::Usage
-    );
-    let help = words(alloc, &["sim", "--help", "FILE"])?;
-    assert_eq!(rt;
-        sim(alloc, help.as_slice(), &mut script, &mut out, &mut err),
-        Status::Usage
-    );
-    assert_eq!(rt; out.bytes(), b"".as_slice());
-    let line =
-        b"usage: jd sim, run or gen, see the manual\nusage: jd sim, run or gen, see the manual\n";
-    assert_eq!(rt; err.bytes(), line.as_slice());
+    let all: [&[&str]; 8] = [
+        &[],
+        &["sim"],
+        &["run", "FILE"],
+        &["sim", "--help"],
+        &["sim", "-p", "2", "FILE"],
+        &["sim", "-p", "", "FILE"],
+        &["sim", "-p", "4294967297", "FILE"],
+        &["sim", "FILE", "FILE"],
+    ];
+    for other in all {
+        let mut script = source(alloc, b"println(1)", &[])?;
+        let mut out = sink(alloc, &[])?;
+        let mut err = sink(alloc, &[])?;
+        let words = words(alloc, other)?;
+        let status = over_fresh_fabric(alloc, words.as_slice(), &mut script, &mut out, &mut err);
+        assert_eq!(rt; status, Status::Usage);
+        assert_eq!(rt; out.bytes(), b"".as_slice());
+        let line = b"usage: jd sim, run or gen, see the manual\n".as_slice();
+        assert_eq!(rt; err.bytes(), line);
+    }
     Ok(())
 }

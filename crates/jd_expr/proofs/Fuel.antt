@@ -10,7 +10,8 @@ use Rattle.jd_value.specs.declared.expr.Expr.{Expr, out-Expr}
 use Rattle.jd_value.specs.declared.expr.Expr.TheOpen.{Expr-F}
 use Rattle.jd_expr.specs.Action.{Action, Ran, Done, Failed, and_then, lift, lift_to, unit}
 use Rattle.jd_expr.specs.Arithmetic.{builtin}
-use Rattle.jd_expr.specs.Meaning.{Variables, Meaning, meaning, each_from, each, applied, node_at, node}
+use Rattle.jd_expr.specs.Variables.{Variables, named}
+use Rattle.jd_expr.specs.Meaning.{Meaning, meaning, each_from, each, applied, node_at, node}
 
 -- no more is left than there was
 abbrev pub Within : {A : Type 0} → ℕ → Ran ℕ A → Type 0
@@ -65,6 +66,7 @@ pub node_at_agrees : (m k : Meaning) (n : ℕ) → AreOne n m k → (calls : ℕ
     → Agrees u (node_at m calls vars x u) (node_at k calls vars x u)
 node_at_agrees m k n h calls vars (Expr-F.Int i) u le = (refl, omega arith)
 node_at_agrees m k n h calls vars (Expr-F.Text text) u le = (refl, omega arith)
+node_at_agrees m k n h calls vars (Expr-F.Name name) u le = lift_agrees (named name vars) u
 node_at_agrees m k n h calls vars (Expr-F.Apply f xs) u le = applied_agrees m k n h calls vars f xs u le
 
 pub node_agrees : (m k : Meaning) (n : ℕ) → AreOne n m k → (calls : ℕ) (vars : Variables) (x : Expr) (u : ℕ) → u ≤ n

@@ -6,13 +6,9 @@ use Rattle.jd_value.specs.declared.value.Value.TheVariants.{Int, Text}
 use Rattle.jd_value.specs.declared.builtin.Builtin.{Builtin}
 use Rattle.jd_value.specs.declared.expr.Expr.{Expr, out-Expr}
 use Rattle.jd_value.specs.declared.expr.Expr.TheOpen.{Expr-F}
-use Rattle.jd_expr.specs.declared.env.Variable.{Variable}
 use Rattle.jd_expr.specs.Action.{Action, ◌>>=◌, ◌>>◌, pure, fail, lift, unit}
 use Rattle.jd_expr.specs.Arithmetic.{builtin}
-
--- The variables that have a value.
-abbrev pub Variables : Type 0
-Variables = List Variable
+use Rattle.jd_expr.specs.Variables.{Variables, named}
 
 -- What each expression means, with how many calls may still nest and the variables.
 pub record Meaning : Type 0 where
@@ -37,6 +33,7 @@ module _ (m : Meaning) where
   abbrev pub node_at : ℕ → Variables → Expr-F Expr → Action ℕ Value
   node_at calls vars (Expr-F.Int n) = pure (Int n)
   node_at calls vars (Expr-F.Text text) = pure (Text text)
+  node_at calls vars (Expr-F.Name name) = lift (named name vars)
   node_at calls vars (Expr-F.Apply function args) = applied calls vars function args
 
   unfoldable pub node : ℕ → Variables → Expr → Action ℕ Value

@@ -6,7 +6,8 @@ use Rattle.jd_value.specs.declared.value.Value.{Value}
 use Rattle.jd_value.specs.declared.expr.Expr.{Expr}
 use Rattle.jd_expr.specs.declared.stop.Stop.{Stop}
 use Rattle.jd_expr.specs.Action.{Gives}
-use Rattle.jd_expr.specs.Meaning.{Variables, meaning}
+use Rattle.jd_expr.specs.Meaning.{meaning}
+use Rattle.jd_expr.specs.Variables.{Variables}
 
 pub record Evaluates (k : ℕ) (pre : Global → ℕ → ℕ → Bor Variables → Bor Expr → MutBor ℕ → Type 0)
     (post : Global → ℕ → ℕ → Bor Variables → Bor Expr → MutBor ℕ → Result Value Stop → MutBor ℕ → Type 0) : Type 0 where

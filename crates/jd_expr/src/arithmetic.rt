@@ -70,7 +70,7 @@ pub(crate) fn builtin_one(function: Builtin, a: &Value) -> Result<Value, Fault>
             Ok(n) => Ok(Value::Int(n)),
             Err(fault) => Err(fault),
         },
-        Value::Text(_) => Err(Fault::BadType),
+        _ => Err(Fault::BadType),
     }
 }
 

@@ -1,6 +1,7 @@
 //! Laws of the meaning.
 ghost use Rattle.std.specs.Prelude.{◌≡◌, ◌≤◌, ℕ};
-ghost use Rattle.jd_expr.specs.Meaning.{Variables, meaning};
+ghost use Rattle.jd_expr.specs.Meaning.{meaning};
+ghost use Rattle.jd_expr.specs.Variables.{Variables};
 ghost use Rattle.jd_value.specs.declared.expr.Expr.{Expr as TheExpr};
 
 /// The number of levels that the meaning carries plays no part where it is no less than the units: the meaning is

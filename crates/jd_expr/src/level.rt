@@ -9,6 +9,7 @@ ghost use Rattle.jd_expr.specs.Nests.{Evaluates};
 use crate::arithmetic::{apply_builtin, builtin_one, builtin_two};
 use crate::budget::Budget;
 use crate::env::Env;
+use crate::named::named;
 use crate::stop::Stop;
 use jd_value::{Builtin, Expr, Value};
 use sqlite_items::Items;
@@ -115,6 +116,7 @@ impl<E: Fn(Global, u64, u64, &Env, &Expr, &mut Budget) -> Result<Value, Stop>> L
         match x {
             Expr::Int(n) => Ok(Value::Int(*n)),
             Expr::Text(text) => Ok(Value::Text(text.share()?)),
+            Expr::Name(name) => named(vars, name),
             Expr::Apply(function, args) => self.applied(
                 calls,
                 vars,

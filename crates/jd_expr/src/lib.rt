@@ -11,13 +11,16 @@ mod env;
 mod evaluate;
 mod laws;
 mod level;
+mod named;
 mod stop;
 #[cfg(test)]
 mod tests;
+mod variable;
 
 pub use arithmetic::apply_builtin;
 pub use budget::Budget;
-pub use env::{Env, Variable};
+pub use env::Env;
 pub use evaluate::{MAX_CALLS, eval, eval_all};
 pub use laws::more_fuel_changes_nothing;
 pub use stop::Stop;
+pub use variable::Variable;

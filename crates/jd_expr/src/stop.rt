@@ -6,7 +6,7 @@ use jd_value::{Fault, OutOfMemory};
 use std::alloc::AllocError;
 
 /// Why an evaluation stopped.
-#[derive(Debug, Drop)]
+#[derive(Drop)]
 pub enum Stop {
     /// The fault is what the expression means.
     Faulted(Fault),

@@ -40,7 +40,7 @@ behind_binary l t e = row_same (1 + max (height l) (height e)) false ((is_minus 
     parts : ((is_minus t.kind && t.spaced) && ((begins_tight e && is_chain e) && is_chain l)) ≡ true → (begins_tight e ≡ true) × (is_chain e ≡ true)
     parts h = both (begins_tight e) (is_chain e) (both (begins_tight e && is_chain e) (is_chain l) (both (is_minus t.kind && t.spaced) ((begins_tight e && is_chain e) && is_chain l) h).1).0
 
-behind_head_is : (h : Head) (e : Syntax) → profile (ending h e) ≡ behind_head h (profile e)
+pub behind_head_is : (h : Head) (e : Syntax) → profile (ending h e) ≡ behind_head h (profile e)
 behind_head_is (unary t) e = behind_unary t e
 behind_head_is (binary l t) e = behind_binary l t e
 behind_head_is (choice c q x t) e = refl
@@ -83,7 +83,7 @@ first_is e = elim (is_chain e) as (λ c. is_chain e ≡ c → shut_profile (c &&
       | false ↦ λ h. refl
     ] refl
 
-bracket_is : (b : Bracket) (o : Token) (es : Items) (e : Syntax) → profile (shut_bracket b o es e) ≡ in_brackets b o.spaced es (profile e)
+pub bracket_is : (b : Bracket) (o : Token) (es : Items) (e : Syntax) → profile (shut_bracket b o es e) ≡ in_brackets b o.spaced es (profile e)
 bracket_is (called f) o none e = row_same (1 + max (height f) (max 0 (height e))) (begins_tight f) ((o.spaced && is_plain e) && is_chain f) true
     (row_height (bracket (called f) o none (just e) (token CloseParen))) (max (row_height f) (1 + max 0 (height e))) (count_cells (cells_of (bracket (called f) o none (just e) (token CloseParen)))) (count_cells (cells_of f) + 1)
     (λ h. called_row f o none (just e) (token CloseParen)) (λ h. count_with (cells_of f) None (bracket grouped o none (just e) (token CloseParen)))
@@ -99,7 +99,7 @@ held_is (spawning s) p e = ap (λ h. flat h true false false) (omega arith)
 held_is (rows o x cells q) p e = ap (λ h. flat h true false false)
     (height_rows o x (with_cell cells q (bracket grouped p none (just e) (token CloseParen))) ∙ ap (λ h. 1 + max (height x) h) (height_with_cell cells q (bracket grouped p none (just e) (token CloseParen)) ∙ omega arith))
 
-fixed_is : (f : Fixed) (e : Syntax) → profile (shut f e) ≡ in_fixed f (profile e)
+pub fixed_is : (f : Fixed) (e : Syntax) → profile (shut f e) ≡ in_fixed f (profile e)
 fixed_is (in_bracket b o es) e = bracket_is b o es e
 fixed_is (in_middle c q) e = refl
 fixed_is (in_group hold p) e = held_is hold p e

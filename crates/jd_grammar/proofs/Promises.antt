@@ -62,7 +62,7 @@ front [] (suc j) (suc k) h = ([], refl)
 front (t ∷ ts) (suc j) zero h = absurd (omega arith)
 front (t ∷ ts) (suc j) (suc k) h = let f = front ts j k (omega arith) in (f.0, ap (λ us. t ∷ us) f.1)
 
-shorter : (ts : List Token) (j k : ℕ) → j ≤ k → IsPrefixWithin (take k ts) → IsPrefixWithin (take j ts)
+pub shorter : (ts : List Token) (j k : ℕ) → j ≤ k → IsPrefixWithin (take k ts) → IsPrefixWithin (take j ts)
 shorter ts j k h p =
     let f = front ts j k h in
     (f.0 ++ p.0, p.1, (subst (λ us. Spells us p.1) (ap (λ us. us ++ p.0) f.1 ∙ append_assoc (take j ts) f.0 p.0) p.2.0, p.2.1))

@@ -3,8 +3,9 @@
 //! The tokens are plain data (`token`). The grammar is a predicate by cases on trees that keep every token
 //! (specs `Trees`, `Rows`, `Grammar` for expressions, `Script` for statements and blocks), the machine a function on
 //! plain stacks of frames (specs `Frames`, `Machine`, `Reader`), and the nesting limit a height of trees (`Depth`,
-//! `ScriptDepth`). `laws` says what they add up to: the layer above, whose parser does what the machine does, is
-//! promised that tokens have one tree, that exactly what is spelled is read, and that a refusal's place is exact.
+//! `ScriptDepth`). `laws` says what they add up to: tokens have one tree, the machine reads exactly what is spelled,
+//! and a refusal has one place. All this is of definitions: no code here reads a script. A parser above is promised
+//! that if each of its steps is the machine's, it reads exactly the scripts of the grammar, and its refusals are exact.
 //! It stands on nothing but std.
 #![tactic(auto)]
 

@@ -2,7 +2,8 @@
 #![tactic(auto)]
 
 use jd_engine::sim;
-use jd_source::{StdSink, StdSource};
+use jd_source::{NoPause, StdSink, StdSource};
+use jd_world::ListFabric;
 use std::process::ExitCode;
 use std::{env, io};
 
@@ -17,6 +18,15 @@ fn main(rt: HostRuntime) -> io::Result<ExitCode> {
     let mut out = StdSink::new(io::writer(&rt));
     let mut err = StdSink::new(rt.stderr());
     let mut script = StdSource::new(&rt);
-    let status = sim(alloc, words.as_slice(), &mut script, &mut out, &mut err);
+    let mut fabric = ListFabric::new(alloc);
+    let status = sim(
+        alloc,
+        words.as_slice(),
+        &mut script,
+        &mut out,
+        &mut err,
+        &mut fabric,
+        &mut NoPause,
+    );
     Ok(ExitCode::from(status as u8))
 }

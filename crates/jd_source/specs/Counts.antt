@@ -1,5 +1,5 @@
 -- Counts that never fall, and what a call says of them.
-use Rattle.std.specs.Prelude.{◌≡◌, ℕ, ◌+◌, ◌-◌, ◌^◌, ◌<◌, ◌≤◌, min, List, length, Result, OnErr, MatchResult}
+use Rattle.std.specs.Prelude.{◌≡◌, ℕ, ◌+◌, ◌-◌, ◌^◌, ◌<◌, ◌≤◌, min, List, length, Option, Some, None, Result, OnErr, MatchResult, ⊤}
 
 -- A count rose where it is greater than before, or stands at its type's end.
 abbrev pub Rose : ℕ → ℕ → Type 0
@@ -14,3 +14,9 @@ pub record HasCause {T E : Type 0} (before now : ℕ) (result : Result T E) : Ty
 abbrev pub EndsOnly : {E : Type 0} → ℕ → ℕ → Result ℕ E → List ℕ → Type 0
 EndsOnly before now r buf =
     (before ≤ now) × MatchResult r (λ n. (0 < n → now ≡ before) × (n ≡ 0 → 0 < length buf → Rose before now)) (λ _. now ≡ before)
+
+-- Where the seconds that were asked for are told, so many were added, up to the type's end.
+abbrev pub Pauses : Option ℕ → Option ℕ → ℕ → Type 0
+Pauses None None seconds = ⊤
+Pauses (Some before) (Some now) seconds = now ≡ min (before + seconds) (2 ^ 64 - 1)
+Pauses _ _ seconds = ⊥

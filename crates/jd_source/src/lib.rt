@@ -1,13 +1,15 @@
 //! Where the bytes of a script come from and where printed lines go.
 //!
-//! The layer above gets three traits, `Source`, `Opener` and `Sink`, whose contracts say what each call does to
-//! the bytes and to the counts of faults, and two loops over them that read to the end and write whole pieces.
-//! Each trait has an implementation in memory, which tells its bytes and fails at listed calls, and one over the
-//! host's files and streams, which tells nothing and is trusted. The crate stands on std alone.
+//! The layer above gets the traits `Source`, `Opener`, `Sink`, `LinkSink` and `Pause`, whose contracts say what each
+//! call does to the bytes, to the counts of faults and to the seconds asked for, and two loops over them that read to
+//! the end and write whole pieces. Each trait has an implementation in memory, which tells what contracts see and, of
+//! bytes, fails at listed calls, and each but `LinkSink` one over the host's files, streams and clock, which tells
+//! nothing and is trusted. The crate stands on std alone.
 #![tactic(auto)]
 
 mod host;
 mod memory;
+mod pause;
 #[cfg(test)]
 mod tests;
 mod traits;
@@ -15,5 +17,6 @@ mod transfer;
 
 pub use host::{StdSink, StdSource};
 pub use memory::{MemFile, MemSink, MemSource};
-pub use traits::{Failed, Opener, Sink, Source};
+pub use pause::{MemPause, NoPause, Pause, StdPause};
+pub use traits::{Failed, LinkSink, Opener, Sink, Source};
 pub use transfer::{ReadFault, read_up_to, write_whole};

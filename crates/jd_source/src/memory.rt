@@ -1,11 +1,11 @@
 //! Sources and sinks in memory, which tell their bytes and fail at the calls of a list.
-ghost use Rattle.std.specs.Prelude.{◌≡◌, ◌≤◌, ◌+◌, ◌-◌, [], None, MatchBool, IfSome, OnOk, OnErr, ◌++◌, ◌∷◌, Some, length, drop, take, min, slice_get, string_bytes};
+ghost use Rattle.std.specs.Prelude.{◌≡◌, ◌≤◌, ◌+◌, ◌-◌, [], None, true, false, MatchBool, IfSome, OnOk, OnErr, ◌++◌, ◌∷◌, Some, length, drop, take, min, slice_get, string_bytes};
 ghost use Rattle.std.specs.Option.{option_copied};
 ghost use Rattle.jd_source.specs.Counts.{Rose};
 ghost use Rattle.jd_source.specs.Content.{content_of};
 ghost use Rattle.jd_source.specs.Memory.{file_pairs, bytes_at, begun_bytes, texts_of};
 
-use crate::traits::{Failed, Opener, Sink, Source};
+use crate::traits::{Failed, LinkSink, Opener, Sink, Source};
 use std::alloc::{AllocError, Global};
 
 /// A file of a `MemSource`.
@@ -36,6 +36,7 @@ pub struct MemSink {
     failing: Vec<u64>,
     calls: u64,
     faults: u64,
+    closed: bool,
 }
 
 impl MemSource {
@@ -85,13 +86,22 @@ impl MemSink {
     pub fn new(alloc: Global, failing: Vec<u64>) -> MemSink
         ensures written { ⟦<MemSink as Sink>⟧.written result ≡ Some [] }
         ensures faults { ⟦<MemSink as Sink>⟧.faults result ≡ 0 }
+        ensures open { result.closed ≡ false }
     {
         MemSink {
             bytes: Vec::new(alloc),
             failing,
             calls: 0,
             faults: 0,
+            closed: false,
         }
+    }
+
+    /// Whether `close` was called.
+    pub fn is_closed(&self) -> bool
+        ensures { result ≡ self.now.closed }
+    {
+        self.closed
     }
 
     /// What was written.
@@ -241,5 +251,15 @@ impl Sink for MemSink {
             return Err(Failed);
         }
         Ok(piece.len())
+    }
+}
+
+impl LinkSink for MemSink {
+    fn close(&mut self)
+        ensures written { ⟦<MemSink as Sink>⟧.written self.new ≡ ⟦<MemSink as Sink>⟧.written self.old }
+        ensures faults { ⟦<MemSink as Sink>⟧.faults self.new ≡ ⟦<MemSink as Sink>⟧.faults self.old }
+        ensures closed { self.new.closed ≡ true }
+    {
+        self.closed = true;
     }
 }

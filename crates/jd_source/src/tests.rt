@@ -1,6 +1,7 @@
 //! What no contract says: that calls with enough memory succeed, and which listed calls fail.
 use crate::{
-    Failed, MemFile, MemSink, MemSource, Opener, ReadFault, Sink, Source, read_up_to, write_whole,
+    Failed, LinkSink, MemFile, MemPause, MemSink, MemSource, NoPause, Opener, Pause, ReadFault,
+    Sink, Source, StdPause, read_up_to, write_whole,
 };
 use std::alloc::{AllocError, Global};
 use std::test::Fail;
@@ -61,5 +62,22 @@ fn a_failed_read_is_told_from_want_of_memory(rt: HostRuntime) -> Result<(), Fail
         Ok(_) => assert!(rt; false),
         Err(fault) => assert_eq!(rt; fault, ReadFault::Failed),
     }
+    Ok(())
+}
+
+#[test]
+fn a_closed_link_and_pauses_go_on(rt: HostRuntime) -> Result<(), Fail> {
+    let alloc = rt.alloc();
+    let mut link = MemSink::new(alloc, Vec::new(alloc));
+    assert!(rt; !link.is_closed());
+    link.close();
+    assert!(rt; link.is_closed());
+    assert_eq!(rt; write_whole(&mut link, b"late"), Ok(()));
+    let mut told = MemPause::new();
+    told.pause(3);
+    told.pause(4);
+    assert_eq!(rt; told.seconds(), 7);
+    NoPause.pause(3600);
+    StdPause::new(rt).pause(0);
     Ok(())
 }

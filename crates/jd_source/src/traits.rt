@@ -66,3 +66,12 @@ pub trait Sink {
         ensures bytes { WriteAppends (written self.old) (written self.new) result piece.now }
         ensures cause { HasCause (faults self.old) (faults self.new) result };
 }
+
+/// A sink at the end of a link, which can say that nothing more comes.
+pub trait LinkSink: Sink {
+    /// Says that nothing more is written, so that the reader at the other end comes to its end. It can't fail, and a
+    /// `write` after it still keeps the rule of `write`.
+    fn close(&mut self)
+        ensures written { Self.written self.new ≡ Self.written self.old }
+        ensures faults { Self.faults self.new ≡ Self.faults self.old };
+}

@@ -1,6 +1,6 @@
 use Rattle.std.proofs.Common.{subst, ◌+◌, ◌∙◌}
 use Rattle.jd_syntax.specs.declared.parsing.TheConstants.{MAX_SCRIPT}
-use Rattle.jd_engine.specs.Endings.{Loads}
+use Rattle.jd_engine.specs.Loading.{Loads}
 use Rattle.jd_engine.proofs.Contents.{loads_whole, told_bytes}
 use Rattle.jd_engine.proofs.load.load.Goals as goal
 

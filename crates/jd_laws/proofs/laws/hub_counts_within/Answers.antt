@@ -1,0 +1,5 @@
+use Rattle.jd_laws.proofs.Numbers as lemmas
+use Rattle.jd_laws.proofs.laws.hub_counts_within.Goals as goal
+
+pub returns : goal.returns
+returns c = lemmas.hub_counts_within

@@ -1,0 +1,5 @@
+use Rattle.jd_node.proofs.Tables.{tasks_staged}
+use Rattle.jd_node.proofs.tasks.Tasks.set_stage.Goals as goal
+
+pub returns-in-Some-clause-set : goal.returns-in-Some-clause-set
+returns-in-Some-clause-set c = tasks_staged _ _ c.args.task c.args.stage _ _ c.row.view_is c.in-Some.ensures.value (c.get_mut.follows.holds _).3

@@ -1,0 +1,5 @@
+pub mod Mail
+pub mod Tables
+pub mod Waits
+pub mod View
+pub mod Steps

@@ -1,0 +1,68 @@
+//! A task calls another.
+ghost use Rattle.std.specs.Prelude.{◌≡◌, OnOk, ◌≢◌, ◌+◌};
+ghost use Rattle.jd_model.specs.Node as spec;
+ghost use Rattle.jd_node.specs.View.{node_of, id_of, Makes};
+ghost use Rattle.jd_node.specs.Steps.{greatest};
+
+use crate::finish::Asker;
+use crate::node::Node;
+use jd_task::{Closure, Msg, TaskId};
+use jd_value::{OutOfMemory, RefId, Value};
+use sqlite_items::Items;
+
+impl Node {
+    /// A task calls another on that process, and has the future of its cell at once.
+    pub(crate) fn call(
+        &mut self,
+        asker: Asker,
+        process: u32,
+        code: Closure,
+        args: Items<Value>,
+    ) -> Result<(), OutOfMemory>
+        requires called { (node_of self.old).called ≢ greatest }
+        requires made { (node_of self.old).made ≢ greatest }
+        ensures step { OnOk result (Makes self.old (spec.calls (id_of self.old) (node_of self.old) asker.task asker.cell asker.place (record { maker = id_of self.old; number = (node_of self.old).made + 1; owner = process }) (record { process = id_of self.old; number = (node_of self.old).called + 1 }) code args) self.new) }
+        ensures id { id_of self.new ≡ id_of self.old }
+    {
+        let cell = RefId {
+            maker: self.id,
+            number: self.made + 1,
+            owner: process,
+        };
+        let task = TaskId {
+            process: self.id,
+            number: self.called + 1,
+        };
+        self.made = cell.number;
+        self.called = task.number;
+        self.make_ready(asker.task, asker.cell, asker.place, Ok(Value::Future(cell)))?;
+        if process == self.id {
+            return self.call_here(cell, task, code, args);
+        }
+        self.send(process, Msg::Begin { cell })?;
+        self.send(
+            process,
+            Msg::Call {
+                cell,
+                task,
+                code,
+                args,
+            },
+        )
+    }
+
+    /// The task runs on this process, and starts at once.
+    fn call_here(
+        &mut self,
+        cell: RefId,
+        task: TaskId,
+        code: Closure,
+        args: Items<Value>,
+    ) -> Result<(), OutOfMemory>
+        ensures step { OnOk result (Makes self.old (spec.called_here (node_of self.old) cell task code args) self.new) }
+        ensures id { id_of self.new ≡ id_of self.old }
+    {
+        self.put_cell(cell, None)?;
+        self.start(cell, task, code, args)
+    }
+}

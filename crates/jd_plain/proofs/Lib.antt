@@ -1,0 +1,9 @@
+pub mod Maps
+pub mod Lives
+pub mod Puts
+pub mod Seen
+pub mod Unlost
+pub mod Given
+pub mod Lines
+pub mod Stepped
+pub mod Moves

@@ -1,0 +1,5 @@
+pub mod Written
+pub mod Headline
+pub mod Recorded
+pub mod Stops
+pub mod Ends

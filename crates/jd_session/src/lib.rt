@@ -1,0 +1,13 @@
+//! The run of process 1: its node, driven step by step over a fabric.
+#![tactic(auto)]
+
+mod drive;
+mod record;
+mod session;
+mod stop;
+#[cfg(test)]
+mod tests;
+
+pub use drive::run;
+pub use session::Session;
+pub use stop::{End, Step, Stop};

@@ -1,0 +1,6 @@
+use Rattle.std.proofs.Common.{◌≡◌, ◌++◌, take, flat_map}
+use Rattle.jd_task.specs.Names.{used_of, uses_of}
+use Rattle.jd_task.proofs.names.+uses.Given as goal
+
+abbrev pub invariant-push_all_uses-loop-stmt : goal.invariant-push_all_uses-loop-stmt
+invariant-push_all_uses-loop-stmt l = l.out ≡ l.fn.out ++ flat_map (λ stmt. used_of (uses_of stmt)) (take l.stmt-index l.all)

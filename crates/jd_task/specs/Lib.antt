@@ -1,0 +1,4 @@
+pub mod Bound
+pub mod Names
+pub mod Places
+pub mod Running

@@ -1,0 +1,27 @@
+//! Tasks: how they go on from one operation to the next, and the messages by which processes call one another.
+//!
+//! The layer above gets places, which say what a task has still to do, as plain data; `Job::evaluate`, whose contract
+//! says that it takes a task exactly as far as `specs/Running` does; and messages. Texts, blocks and bodies are shared,
+//! so that copies take time in proportion to the lists of values alone. The crate stands on jd_value and jd_expr.
+#![tactic(auto)]
+
+mod closure;
+mod doing;
+mod frame;
+mod job;
+mod msg;
+mod names;
+mod op;
+mod place;
+mod reached;
+mod running;
+mod statement;
+#[cfg(test)]
+mod tests;
+
+pub use closure::Closure;
+pub use frame::Frame;
+pub use job::{Evaluated, Job, STEP_UNITS, TaskId, Turn};
+pub use msg::Msg;
+pub use op::Op;
+pub use place::Place;

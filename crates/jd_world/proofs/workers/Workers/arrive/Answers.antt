@@ -1,0 +1,10 @@
+use Rattle.std.proofs.Common.{refl}
+use Rattle.jd_world.proofs.Written.{written, if_ok, arrives_at, arrives_not}
+use Rattle.jd_world.proofs.workers.Workers.arrive.Goals as goal
+
+pub returns-in-Some-clause-none : goal.returns-in-Some-clause-none
+returns-in-Some-clause-none c = if_ok c.arrive.result c.arrive.ensures.none (λ went h e.
+    let n = h e in let x = arrives_not _ _ _ c.args.from _ _ (written c.args.self.now _ c.args.to c.in-Some.worker.now _ refl c.in-Some.ensures.value (c.get_mut.follows.holds _).3) n.0 n.1 n.2 in (x.0, x.1, x.2, n.3))
+
+pub returns-in-Some-clause-went : goal.returns-in-Some-clause-went
+returns-in-Some-clause-went c = if_ok c.arrive.result c.arrive.ensures.went (λ went h e. arrives_at _ _ _ c.args.from _ _ _ _ (written c.args.self.now _ c.args.to c.in-Some.worker.now _ refl c.in-Some.ensures.value (c.get_mut.follows.holds _).3) (h e))

@@ -1,0 +1,13 @@
+use Rattle.std.proofs.Common.{refl}
+use Rattle.jd_world.proofs.Written.{written, if_ok, runs_at, runs_not, same_links}
+use Rattle.jd_world.proofs.workers.Workers.go_on.Goals as goal
+
+pub returns-in-Some-clause-none : goal.returns-in-Some-clause-none
+returns-in-Some-clause-none c = if_ok c.go_on.result c.go_on.ensures.none (λ went h e.
+    let n = h e in let x = runs_not _ _ _ _ _ (written c.args.self.now _ c.args.number c.in-Some.worker.now _ refl c.in-Some.ensures.value (c.get_mut.follows.holds _).3) n.0 n.1 in (x.0, x.1, n.2))
+
+pub returns-in-Some-clause-went : goal.returns-in-Some-clause-went
+returns-in-Some-clause-went c = if_ok c.go_on.result c.go_on.ensures.went (λ went h e. runs_at _ _ _ _ _ _ _ (written c.args.self.now _ c.args.number c.in-Some.worker.now _ refl c.in-Some.ensures.value (c.get_mut.follows.holds _).3) (h e))
+
+pub returns-in-Some-clause-links : goal.returns-in-Some-clause-links
+returns-in-Some-clause-links c = same_links _ _ _ _ _ (written c.args.self.now _ c.args.number c.in-Some.worker.now _ refl c.in-Some.ensures.value (c.get_mut.follows.holds _).3) c.go_on.ensures.links

@@ -1,0 +1,3 @@
+pub mod Fabric
+pub mod Workers
+pub mod Outside
