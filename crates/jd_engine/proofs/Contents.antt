@@ -1,16 +1,17 @@
 -- A script that was read up to one byte past the limit.
-use Rattle.std.proofs.Common.{◌≡◌, ℕ, ◌+◌, ◌<◌, ◌≤◌, List, length, take, ◌∙◌, ap, subst, arith, Option, Some, None, IfSome, Result, Ok, Err, length-take}
+use Rattle.std.proofs.Common.{inl, inr, ◌≡◌, ℕ, ◌+◌, ◌<◌, ◌≤◌, List, length, take, ◌∙◌, ap, sym, subst, arith, Option, Some, None, IfSome, Result, Ok, Err, length-take}
+use Rattle.std.specs.Prelude.{◌⊎◌}
 use Rattle.std.proofs.lemmas.Grind.{common_steps}
 use Rattle.jd_source.specs.Content.{content_of, Opens, TakesAtMost}
 use Rattle.jd_syntax.specs.Spelling.{Spells}
-use Rattle.jd_syntax.specs.Answers.{RefusesAs}
+use Rattle.jd_syntax.specs.Refusal.{IsRefused, line_at}
 use Rattle.jd_syntax.specs.declared.parsing.TheConstants.{MAX_SCRIPT}
-use Rattle.jd_syntax.specs.declared.parsing.ParseKind.{ParseKind}
-use Rattle.jd_syntax.specs.declared.parsing.ParseKind.TheVariants as kind
+use Rattle.jd_syntax.specs.declared.fault.ParseKind.{ParseKind}
+use Rattle.jd_syntax.specs.declared.fault.ParseKind.TheVariants as kind
 use Rattle.jd_value.specs.declared.tree.Program.{Program}
 use Rattle.jd_engine.specs.declared.status.Ending.{Ending}
 use Rattle.jd_engine.specs.declared.status.Ending.TheVariants as ending
-use Rattle.jd_engine.specs.Loading.{Loads}
+use Rattle.jd_engine.specs.Loading.{NotLoaded, Loads}
 
 module _ (m : ℕ) (content : List ℕ) where
   whole : length (take (m + 1) content) ≤ m → take (m + 1) content ≡ content
@@ -19,17 +20,25 @@ module _ (m : ℕ) (content : List ℕ) where
   longer : m < length (take (m + 1) content) → m < length content
   longer h = grind (arith, common_steps, length-take (m + 1) content)
 
-refuses_whole : (content : List ℕ) (line : ℕ) (k : ParseKind) → RefusesAs (take (MAX_SCRIPT + 1) content) line k → RefusesAs content line k
-refuses_whole content line kind.TooLong h = (h.0, longer MAX_SCRIPT content h.1)
-refuses_whole content line kind.Form h = subst (λ c. RefusesAs c line kind.Form) (whole MAX_SCRIPT content h.1) h
-refuses_whole content line kind.Bytes h = absurd h
-refuses_whole content line kind.Token h = absurd h
-refuses_whole content line kind.WideNumber h = absurd h
-refuses_whole content line kind.TooDeep h = absurd h
+same : (content : List ℕ) (k : ParseKind) (place : ℕ) → length (take (MAX_SCRIPT + 1) content) ≤ MAX_SCRIPT → IsRefused (take (MAX_SCRIPT + 1) content) k place
+    → IsRefused content k place × (line_at (take (MAX_SCRIPT + 1) content) place ≡ line_at content place)
+same content k place l h = let e = whole MAX_SCRIPT content l in (subst (λ c. IsRefused c k place) e h, ap (λ c. line_at c place) e)
+
+refused_whole : (content : List ℕ) (k : ParseKind) (place : ℕ) → IsRefused (take (MAX_SCRIPT + 1) content) k place → IsRefused content k place × (line_at (take (MAX_SCRIPT + 1) content) place ≡ line_at content place)
+refused_whole content kind.TooLong place h = ((longer MAX_SCRIPT content h.0, h.1), ap (line_at (take (MAX_SCRIPT + 1) content)) h.1 ∙ sym (ap (line_at content) h.1))
+refused_whole content kind.Bytes place h = same content kind.Bytes place h.0 h
+refused_whole content kind.Token place h = same content kind.Token place h.0.short h
+refused_whole content kind.WideNumber place h = same content kind.WideNumber place h.0.short h
+refused_whole content kind.TooDeep place h = same content kind.TooDeep place h.0.short h
+refused_whole content kind.Form place h = same content kind.Form place h.0.short h
+
+refuses_whole : (content : List ℕ) (line : ℕ) (k : ParseKind) → NotLoaded (take (MAX_SCRIPT + 1) content) (ending.ScriptRefused line k) → NotLoaded content (ending.ScriptRefused line k)
+refuses_whole content line k (inl h) = let r = refused_whole content k h.0 h.1 in inl (h.0, r.0, h.2 ∙ r.1)
+refuses_whole content line k (inr h) = inr (h.0, subst (λ c. Spells c h.0) (whole MAX_SCRIPT content h.1.text.short) h.1, h.2, h.3, h.4)
 
 pub loads_whole : (content : List ℕ) (r : Result Program Ending) → Loads (take (MAX_SCRIPT + 1) content) r → Loads content r
 loads_whole content (Ok program) h =
-    record { script = h.script; spelled = subst (λ c. Spells c h.script) (whole MAX_SCRIPT content h.spelled.short) h.spelled; means = h.means }
+    record { script = h.script; spelled = subst (λ c. Spells c h.script) (whole MAX_SCRIPT content h.spelled.text.short) h.spelled; means = h.means }
 loads_whole content (Err ending.Done) h = absurd h
 loads_whole content (Err (ending.ScriptError text)) h = absurd h
 loads_whole content (Err ending.Usage) h = absurd h

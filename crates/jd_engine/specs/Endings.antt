@@ -3,8 +3,8 @@ use Rattle.std.specs.Prelude.{◌≡◌, ◌⊎◌, ℕ, ◌≤◌, List, [], �
 use Rattle.std.specs.Io.KnownBytes.{Appends}
 use Rattle.jd_source.specs.Counts.{Rose}
 use Rattle.jd_source.specs.Content.{AppendsFront}
-use Rattle.jd_syntax.specs.declared.parsing.ParseKind.{ParseKind}
-use Rattle.jd_syntax.specs.declared.parsing.ParseKind.TheVariants as kind
+use Rattle.jd_syntax.specs.declared.fault.ParseKind.{ParseKind}
+use Rattle.jd_syntax.specs.declared.fault.ParseKind.TheVariants as kind
 use Rattle.jd_engine.specs.declared.status.Status.{Status}
 use Rattle.jd_engine.specs.declared.status.Status.TheVariants as status
 use Rattle.jd_engine.specs.declared.status.Ending.{Ending}

@@ -2,4 +2,3 @@ pub mod Words
 pub mod Endings
 pub mod Loading
 pub mod Headline
-pub mod Lowering

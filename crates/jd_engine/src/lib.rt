@@ -7,7 +7,6 @@
 #![tactic(auto)]
 
 mod load;
-mod lower;
 mod report;
 mod simulate;
 mod status;

@@ -1,29 +1,27 @@
 //! From a file to a program.
-ghost use Rattle.std.specs.Prelude.{◌≡◌, ◌≤◌, ◌+◌, ℕ, List, Some, Err, IfErr, OnOk, length, IsTrue};
+ghost use Rattle.std.specs.Prelude.{◌≡◌, ◌≤◌, ◌+◌, ℕ, List, Some, Err, IfErr, OnOk, length};
 ghost use Rattle.jd_source.specs.Counts.{Rose};
 ghost use Rattle.jd_source.specs.Content.{content_of, AsksAtMost, TakesAtMost};
-ghost use Rattle.jd_syntax.specs.Grammar.{IsBlock};
-ghost use Rattle.jd_syntax.specs.Plain.{plain_script};
-ghost use Rattle.jd_syntax.specs.Pure.{is_pure};
+ghost use Rattle.jd_syntax.specs.Answers.{plain_script};
 ghost use Rattle.jd_engine.specs.Loading.{Loads, IsLoaded, IsLoadEnding, LowersTo};
 
-use crate::lower::{LowerFault, lower};
 use crate::status::Ending;
+use jd_lower::{LowerFault, lower};
 use jd_source::{Opener, ReadFault, read_up_to};
-use jd_syntax::tree::Script;
-use jd_syntax::{MAX_SCRIPT, ParseFault, parse};
+use jd_syntax::{MAX_SCRIPT, ParseFault, ParseKind, Script, parse};
 use jd_value::Program;
 use std::alloc::Global;
 
-// A script that was parsed is pure, so that it is always lowered.
+// The program of a script that can be run.
 fn lowered(alloc: Global, script: &Script) -> Result<Program, Ending>
-    requires grammar { IsBlock (plain_script script.now).block }
-    requires pure { IsTrue (is_pure (plain_script script.now).block) }
     ensures { LowersTo (plain_script script.now) result }
 {
     match lower(alloc, script) {
         Ok(program) => Ok(program),
-        Err(LowerFault::NotPure) => unreachable!(),
+        Err(LowerFault::NotBuilt) => Err(Ending::ScriptRefused {
+            line: 0,
+            kind: ParseKind::Form,
+        }),
         Err(LowerFault::OutOfMemory) => Err(Ending::OutOfMemory),
     }
 }

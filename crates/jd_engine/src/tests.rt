@@ -64,31 +64,31 @@ const RUNS: [Run; 13] = [
     Run {
         script: b"println(1 +",
         out: b"",
-        err: b"REFUSED line 0: Form\n",
+        err: b"REFUSED line 1: Form\n",
         status: Status::ScriptRefused,
     },
     Run {
         script: b"println(1) println(2)",
         out: b"",
-        err: b"REFUSED line 0: Form\n",
+        err: b"REFUSED line 1: Form\n",
         status: Status::ScriptRefused,
     },
     Run {
         script: b"println(9223372036854775808)",
         out: b"",
-        err: b"REFUSED line 0: Form\n",
+        err: b"REFUSED line 1: WideNumber\n",
         status: Status::ScriptRefused,
     },
     Run {
         script: b"println(x)",
         out: b"",
-        err: b"REFUSED line 0: Form\n",
-        status: Status::ScriptRefused,
+        err: b"ERROR: UndefVarError(:x)\n",
+        status: Status::ScriptError,
     },
     Run {
         script: b"println(\"\xff\")",
         out: b"",
-        err: b"REFUSED line 0: Form\n",
+        err: b"REFUSED line 1: Bytes\n",
         status: Status::ScriptRefused,
     },
 ];

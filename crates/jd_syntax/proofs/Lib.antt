@@ -1,11 +1,3 @@
-pub mod Sound
-pub mod Complete
-pub mod Nesting
-pub mod Trees
-pub mod Reading
-pub mod Interning
-pub mod Numbers
-pub mod Scan
-pub mod Pieces
-pub mod Cuts
-pub mod Spelled
+pub mod Refusals
+pub mod Places
+pub mod Readings

@@ -1,14 +1,3 @@
-pub mod Grammar
-pub mod Plain
-pub mod Pure
-pub mod Depth
-pub mod Machine
-pub mod Written
-pub mod Code
-pub mod Words
-pub mod Lexical
-pub mod Names
-pub mod Lexing
 pub mod Spelling
+pub mod Refusal
 pub mod Answers
-pub mod Cutting

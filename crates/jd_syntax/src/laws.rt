@@ -1,10 +1,18 @@
-//! Laws of the grammar, each the contract of a function that does nothing.
-ghost use Rattle.std.specs.Prelude.{◌≡◌, ℕ, List};
-ghost use Rattle.jd_syntax.specs.Grammar as grammar;
-ghost use Rattle.jd_syntax.specs.Spelling.{Spells};
+//! Laws of the definitions, each the contract of a function that does nothing.
+ghost use Rattle.jd_syntax.specs.Spelling.{SpellOneScript};
+ghost use Rattle.jd_syntax.specs.Refusal.{AreRefusedOnce, AreNotBoth};
 
-/// The grammar is unambiguous: bytes spell at most one script.
-#[tactic(auto, using(crate::proofs::Spelled::one_script))]
-pub fn spelling_is_unique()
-    ensures { (bytes : List ℕ) (s t : grammar.Script) → Spells bytes s → Spells bytes t → s ≡ t }
+/// Bytes spell at most one script.
+pub fn bytes_spell_one_script()
+    ensures { SpellOneScript }
+{}
+
+/// Bytes are refused at one place and for one reason.
+pub fn bytes_are_refused_once()
+    ensures { AreRefusedOnce }
+{}
+
+/// Bytes that spell a script are not refused.
+pub fn spelled_bytes_are_not_refused()
+    ensures { AreNotBoth }
 {}

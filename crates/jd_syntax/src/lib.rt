@@ -1,24 +1,18 @@
 //! The parser of scripts: from bytes to trees that keep every token.
 //!
-//! `parse` answers the one script that the bytes spell, and a refusal exactly where they spell none or
-//! are too many. The lexer knows every token of the language; the grammar is so far that of pure
-//! scripts, whose lines print texts and sums of numbers. Tokens are those of `jd_grammar`.
+//! `parse` answers the one script that the bytes spell. Where they spell none, it tells the line of the first place up
+//! to which they are no beginning of a script, and why. Both are exact. The tokens are cut by `jd_lexer`, and
+//! `jd_reader` reads them into the trees of `jd_tree` by the grammar of `jd_grammar`.
 #![tactic(auto)]
 
-mod block;
-mod build;
+mod fault;
 pub mod laws;
-mod lexeme;
-mod lexer;
-mod machine;
-mod measured;
-mod names;
+mod lines;
 mod parsing;
-mod pure;
-mod stack;
+mod script;
 #[cfg(test)]
 mod tests;
-pub mod tree;
-pub mod words;
 
-pub use parsing::{MAX_SCRIPT, ParseFault, ParseKind, parse};
+pub use fault::{ParseFault, ParseKind};
+pub use parsing::{MAX_SCRIPT, parse};
+pub use script::Script;

@@ -1,70 +1,33 @@
 //! Reads the bytes of a script.
-ghost use Rattle.std.specs.Prelude.{◌≡◌, ◌≤◌, ◌↔◌, length, IfOk, IfErr, IsTrue};
-ghost use Rattle.std.specs.Str.{IsUtf8};
-ghost use Rattle.jd_syntax.specs.Grammar as grammar;
-ghost use Rattle.jd_syntax.specs.Plain.{plain_script};
-ghost use Rattle.jd_syntax.specs.Names.{texts_of};
-ghost use Rattle.jd_syntax.specs.Spelling.{max_script, Spells, IsCut};
-ghost use Rattle.jd_syntax.specs.Answers.{Parses, Refuses};
-ghost use Rattle.jd_syntax.specs.Code.{ReadsScript};
+ghost use Rattle.std.specs.Prelude.{◌≡◌, ◌≤◌, ℕ, List, length, IfOk, IfErr};
+ghost use Rattle.jd_tree.specs.PlainScript.{plain_block};
+ghost use Rattle.jd_lexer.specs.Names.{texts_of};
+ghost use Rattle.jd_lexer.specs.Lexical.{lexed};
+ghost use Rattle.jd_lexer.specs.Lexing.{lexed_of};
+ghost use Rattle.jd_syntax.specs.declared.fault.ParseKind as kinds;
+ghost use Rattle.jd_syntax.specs.Spelling as spelling;
+ghost use Rattle.jd_syntax.specs.Spelling.{max_script, IsText, Spells, IsCut, script_with};
+ghost use Rattle.jd_syntax.specs.Refusal.{place_of, IsRefused, line_at};
+ghost use Rattle.jd_syntax.specs.Answers.{plain_script, kind_of, refused_at, Reads, ReadsTokens, Parses, Refuses, Tells};
 
-use crate::block::read_block;
-use crate::lexer::lex;
-use crate::machine::Stop;
-use crate::pure::is_pure;
-use crate::tree::{Script, Text};
+use crate::fault::{ParseFault, ParseKind};
+use crate::lines::line_behind;
+use crate::script::Script;
+use jd_grammar::token::Token;
+use jd_lexer::{Lexer, Text, lex};
+use jd_reader::{Fault, Refusal};
+use jd_tree::script::Block;
 use sqlite_items::Items;
 use std::alloc::{AllocError, Global};
-use std::fmt;
-use thiserror::Error;
 
 /// How many bytes a script may have.
 pub const MAX_SCRIPT: usize = 1_048_576;
 
-/// Why a script is refused.
-#[derive(Clone, Copy, Debug, PartialEq, Eq)]
-pub enum ParseKind {
-    /// It isn't UTF-8.
-    Bytes = 1,
-    /// No token begins there.
-    Token = 2,
-    /// The tokens up to there are no beginning of a script.
-    Form = 3,
-    /// A number of 2^63 or more.
-    WideNumber = 4,
-    /// It has more bytes than a script may have.
-    TooLong = 5,
-    /// Too many constructs stand round one token.
-    TooDeep = 6,
-}
-
-impl fmt::Display for ParseKind {
-    fn fmt<W: fmt::Write>(&self, f: &mut fmt::Formatter<W>) -> fmt::Result {
-        f.write_str(match self {
-            ParseKind::Bytes => "Bytes",
-            ParseKind::Token => "Token",
-            ParseKind::Form => "Form",
-            ParseKind::WideNumber => "WideNumber",
-            ParseKind::TooLong => "TooLong",
-            ParseKind::TooDeep => "TooDeep",
-        })
-    }
-}
-
-/// Why there is no script.
-#[derive(Debug, Drop, PartialEq, Eq, Error)]
-pub enum ParseFault {
-    /// The line is counted from 1, and 0 stands for a script as a whole.
-    #[error("line {line}: {kind}")]
-    Refused { line: u32, kind: ParseKind },
-    #[error("out of memory")]
+/// Why reading stopped: the bytes are refused at a place, or memory ran out.
+#[derive(Drop)]
+pub enum Stop {
+    Refused { kind: ParseKind, place: usize },
     OutOfMemory,
-}
-
-fn is_text(bytes: &[u8]) -> bool
-    ensures { IsTrue result ↔ IsUtf8 bytes.now }
-{
-    str::from_utf8(bytes).is_ok()
 }
 
 fn owned(alloc: Global, texts: &[&[u8]]) -> Result<Items<Text>, AllocError>
@@ -77,25 +40,66 @@ fn owned(alloc: Global, texts: &[&[u8]]) -> Result<Items<Text>, AllocError>
     Ok(owned)
 }
 
-fn read(alloc: Global, bytes: &[u8]) -> Result<Script, Stop>
-    requires { length bytes.now ≤ max_script }
-    ensures found { IfOk result (λ s. Spells bytes.now (plain_script s)) }
-    ensures only { (s : grammar.Script) → Spells bytes.now s → ReadsScript result s }
+/// Where the token of this number begins; behind the last one stands the end of the script.
+fn place_of(tokens: &[Token], number: usize, end: usize) -> usize
+    ensures { result ≡ place_of tokens.now number end }
 {
-    if !is_text(bytes) {
-        return Err(Stop::Refused);
+    match tokens.get(number) {
+        Some(token) => token.start as usize,
+        None => end,
     }
-    let (lexer, stop) = lex(alloc, bytes)?;
-    if stop.is_some() {
-        return Err(Stop::Refused);
+}
+
+fn kind_of(refusal: Refusal) -> ParseKind
+    ensures { result ≡ kind_of refusal }
+{
+    match refusal {
+        Refusal::Misplaced => ParseKind::Form,
+        Refusal::TooDeep => ParseKind::TooDeep,
+        Refusal::TooLarge => ParseKind::WideNumber,
     }
-    let block = match read_block(alloc, lexer.tokens.as_slice()) {
-        Ok(block) => block,
-        Err(stop) => return Err(stop),
-    };
-    if !is_pure(&block) {
-        return Err(Stop::Refused);
+}
+
+/// The block that the tokens are written for, or the number of the token that is refused.
+fn read_tokens(alloc: Global, tokens: &[Token]) -> Result<Block, Stop>
+    ensures { ReadsTokens tokens.now result }
+{
+    match jd_reader::read(alloc, tokens) {
+        Ok(block) => Ok(block),
+        Err(Fault::Refused { place, refusal }) => Err(Stop::Refused {
+            kind: kind_of(refusal),
+            place,
+        }),
+        Err(Fault::OutOfMemory) => Err(Stop::OutOfMemory),
     }
+}
+
+/// The refusal of the token of this number among those before the place where no token begins, if there is one.
+fn refused(
+    tokens: &[Token],
+    kind: ParseKind,
+    number: usize,
+    stop: Option<usize>,
+    end: usize,
+) -> Stop
+    ensures { result ≡ refused_at tokens.now kind number stop end }
+{
+    match stop {
+        Some(place) if number == tokens.len() => Stop::Refused {
+            kind: ParseKind::Token,
+            place,
+        },
+        _ => Stop::Refused {
+            kind,
+            place: place_of(tokens, number, end),
+        },
+    }
+}
+
+/// The script of a block.
+fn script_of(alloc: Global, block: Block, lexer: Lexer) -> Result<Script, AllocError>
+    ensures { IfOk result (λ s. plain_script s ≡ script_with (plain_block block) (lexed_of lexer.entry)) }
+{
     let names = owned(alloc, lexer.names.as_slice())?;
     Ok(Script {
         block,
@@ -104,20 +108,62 @@ fn read(alloc: Global, bytes: &[u8]) -> Result<Script, Stop>
     })
 }
 
-/// The script that the bytes spell.
+/// Reads what was cut from text, and the first place where no token begins, if there is one.
+fn read_cut(alloc: Global, lexer: Lexer, stop: Option<usize>, end: usize) -> Result<Script, Stop>
+    ensures { (bytes : List ℕ) → IsText bytes → end ≡ length bytes → (lexed_of lexer.entry, stop) ≡ lexed bytes → Reads bytes result }
+{
+    let block = match read_tokens(alloc, lexer.tokens.as_slice()) {
+        Ok(block) => block,
+        Err(Stop::Refused { kind, place }) => {
+            return Err(refused(lexer.tokens.as_slice(), kind, place, stop, end));
+        }
+        Err(Stop::OutOfMemory) => return Err(Stop::OutOfMemory),
+    };
+    match stop {
+        Some(place) => Err(Stop::Refused {
+            kind: ParseKind::Token,
+            place,
+        }),
+        None => match script_of(alloc, block, lexer) {
+            Ok(script) => Ok(script),
+            Err(_) => Err(Stop::OutOfMemory),
+        },
+    }
+}
+
+fn read(alloc: Global, bytes: &[u8]) -> Result<Script, Stop>
+    requires { length bytes.now ≤ max_script }
+    ensures { Reads bytes.now result }
+{
+    match str::from_utf8(bytes) {
+        Ok(_) => match lex(alloc, bytes) {
+            Ok((lexer, stop)) => read_cut(alloc, lexer, stop, bytes.len()),
+            Err(_) => Err(Stop::OutOfMemory),
+        },
+        Err(fault) => Err(Stop::Refused {
+            kind: ParseKind::Bytes,
+            place: fault.valid_up_to(),
+        }),
+    }
+}
+
+/// The script that the bytes spell, or the line of the first place up to which they are no beginning of one.
 ///
-/// A script of more than `MAX_SCRIPT` bytes is `TooLong` at line 1. Any other that spells no script is
-/// `Form` at line 0.
+/// The line is 1 more than there are line feeds before the place; the end of the script may be that place. A script of
+/// more than `MAX_SCRIPT` bytes is `TooLong` at line 1; else one that isn't UTF-8 is `Bytes` where that shows; else
+/// the kind is the first that holds of `Token`, `WideNumber`, `TooDeep` and `Form`.
 pub fn parse(alloc: Global, bytes: &[u8]) -> Result<Script, ParseFault>
     // What is read is spelled so.
     ensures found { IfOk result (λ s. Spells bytes.now (plain_script s)) }
     // What is spelled so is read, unless memory runs out.
-    ensures only { (s : grammar.Script) → Spells bytes.now s → Parses result s }
+    ensures only { (s : spelling.Script) → Spells bytes.now s → Parses result s }
     // Its tokens are cut from the bytes: each is the longest at its place, and blanks and comments
     // stand between.
     ensures cut { IfOk result (λ s. IsCut bytes.now (plain_script s)) }
-    // A refusal has its cause.
+    // A refusal is that of its kind, at a place on its line.
     ensures refused { IfErr result (Refuses bytes.now) }
+    // Bytes that are refused so are told so, unless memory runs out.
+    ensures told { (kind : kinds.ParseKind) (place : ℕ) → IsRefused bytes.now kind place → Tells result kind (line_at bytes.now place) }
 {
     if bytes.len() > MAX_SCRIPT {
         return Err(ParseFault::Refused {
@@ -128,9 +174,9 @@ pub fn parse(alloc: Global, bytes: &[u8]) -> Result<Script, ParseFault>
     match read(alloc, bytes) {
         Ok(script) => Ok(script),
         Err(Stop::OutOfMemory) => Err(ParseFault::OutOfMemory),
-        Err(Stop::Refused) => Err(ParseFault::Refused {
-            line: 0,
-            kind: ParseKind::Form,
-        }),
+        Err(Stop::Refused { kind, place }) => {
+            let line = line_behind(&bytes[..place]);
+            Err(ParseFault::Refused { line, kind })
+        }
     }
 }

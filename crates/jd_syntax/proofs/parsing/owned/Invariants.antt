@@ -1,5 +1,5 @@
 use Rattle.std.proofs.Common.{◌≡◌, ◌++◌, drop}
-use Rattle.jd_syntax.specs.Names.{texts_of}
+use Rattle.jd_lexer.specs.Names.{texts_of}
 use Rattle.jd_syntax.proofs.parsing.owned.Given as goal
 
 abbrev pub invariant-loop-text : goal.invariant-loop-text

@@ -1,0 +1,5 @@
+pub mod Interning
+pub mod Numbers
+pub mod Scan
+pub mod Pieces
+pub mod Cuts

@@ -1,0 +1,5 @@
+pub mod Words
+pub mod Lexical
+pub mod Names
+pub mod Lexing
+pub mod Cutting

@@ -1,0 +1,187 @@
+//! Cuts a script into tokens.
+ghost use Rattle.std.specs.Prelude.{◌≡◌, ◌+◌, ◌≤◌, ◌<◌, ◌^◌, ◌||◌, drop, length, slice_index, IfOk, IfSome, OnOk, nat_lt};
+ghost use Rattle.std.specs.HashSet.{hash_set_len};
+ghost use Rattle.jd_lexer.specs.Lexical.{is_line_end, joins, opened, gap_at, with_gap, with_token, with_lexeme, start, lexed, IsWithin};
+ghost use Rattle.jd_lexer.specs.Lexing.{lexed_of};
+ghost use Rattle.jd_lexer.specs.Names.{texts_of};
+
+use crate::lexeme::{Lexeme, Text, lexeme_at, line_end, slice, starts_with};
+use crate::names::number_of;
+use indexmap::IndexSet;
+use jd_grammar::token::{Kind, Name, Token};
+use sqlite_items::Items;
+use std::alloc::{AllocError, Global};
+
+/// What was read of a script so far.
+#[derive(Drop)]
+pub struct Lexer<'a> {
+    pub tokens: Items<Token>,
+    pub texts: Items<Text>,
+    /// The names without a meaning of their own, in the order in which they first occur.
+    pub names: IndexSet<&'a [u8]>,
+    /// How many parentheses and brackets are open.
+    pub nest: usize,
+    /// Whether a line that ends now goes on.
+    pub joined: bool,
+    /// Whether a blank, the end of a line or a comment was read last.
+    pub spaced: bool,
+}
+
+fn is_line_end(kind: Kind) -> bool
+    ensures { result ≡ is_line_end kind }
+{
+    matches!(kind, Kind::LineEnd)
+}
+
+/// Whether the line that ends behind such a token goes on.
+fn joins(kind: Kind) -> bool
+    ensures { result ≡ joins kind }
+{
+    matches!(
+        kind,
+        Kind::Plus
+            | Kind::Minus
+            | Kind::Star
+            | Kind::Divide
+            | Kind::Percent
+            | Kind::And
+            | Kind::Or
+            | Kind::Xor
+            | Kind::Equal
+            | Kind::Unequal
+            | Kind::Less
+            | Kind::LessEqual
+            | Kind::Greater
+            | Kind::GreaterEqual
+            | Kind::AndAlso
+            | Kind::OrElse
+            | Kind::Comma
+            | Kind::Arrow
+            | Kind::Question
+            | Kind::Colon
+            | Kind::Assign
+    )
+}
+
+/// How many parentheses and brackets are open behind a token.
+fn opened(kind: Kind, nest: usize) -> usize
+    requires { nest + 1 < 2 ^ 64 }
+    ensures { result ≡ opened kind nest }
+{
+    match kind {
+        Kind::OpenParen | Kind::OpenBracket => nest + 1,
+        Kind::CloseParen | Kind::CloseBracket => nest.saturating_sub(1),
+        _ => nest,
+    }
+}
+
+/// How many bytes the blank or the comment at a place has behind its first. None where there is
+/// neither.
+fn gap_at(bytes: &[u8], at: usize, blank_end: bool) -> Option<usize>
+    requires { at < length bytes.now }
+    ensures gap { result ≡ gap_at blank_end (slice_index bytes.now at) (drop (at + 1) bytes.now) }
+    ensures within { IfSome result (λ n. at + 1 + n ≤ length bytes.now) }
+{
+    match bytes[at] {
+        b' ' | b'\t' => Some(0),
+        b'#' => Some(line_end(bytes, at + 1) - at - 1),
+        b'\r' if starts_with(bytes, at + 1, b'\n') => Some(0),
+        b'\n' if blank_end => Some(0),
+        _ => None,
+    }
+}
+
+impl<'a> Lexer<'a> {
+    fn new(alloc: Global) -> Lexer<'a>
+        ensures { lexed_of result ≡ start }
+    {
+        Lexer {
+            tokens: Items::new(alloc),
+            texts: Items::new(alloc),
+            names: IndexSet::new(alloc),
+            nest: 0,
+            joined: false,
+            spaced: false,
+        }
+    }
+
+    /// Whether the end of a line is a blank here.
+    fn is_end_blank(&self) -> bool
+        ensures { result ≡ (nat_lt 0 self.now.nest || self.now.joined) }
+    {
+        self.nest > 0 || self.joined
+    }
+
+    fn add_gap(&mut self)
+        ensures { lexed_of self.new ≡ with_gap (lexed_of self.old) }
+    {
+        self.spaced = true;
+    }
+
+    fn add_token(&mut self, kind: Kind, start: usize, end: usize) -> Result<(), AllocError>
+        requires starts { start < 2 ^ 32 }
+        requires ends { end < 2 ^ 32 }
+        requires nest { self.old.nest + 1 < 2 ^ 64 }
+        ensures { OnOk result (lexed_of self.new ≡ with_token (lexed_of self.old) kind start end) }
+    {
+        let spaced = self.spaced;
+        self.tokens.push(Token {
+            kind,
+            start: start as u32,
+            end: end as u32,
+            spaced,
+        })?;
+        self.nest = opened(kind, self.nest);
+        self.joined = joins(kind);
+        self.spaced = is_line_end(kind);
+        Ok(())
+    }
+
+    /// Adds the token that stands at a place as these bytes.
+    fn add(&mut self, lexeme: Lexeme, at: usize, bytes: &'a [u8]) -> Result<(), AllocError>
+        requires counts { IsWithin (lexed_of self.old) at }
+        requires within { at + length bytes.now < 2 ^ 32 }
+        ensures { OnOk result (lexed_of self.new ≡ with_lexeme (lexed_of self.old) lexeme at bytes.now) }
+    {
+        let end = at + bytes.len();
+        match lexeme {
+            Lexeme::Plain(kind) => self.add_token(kind, at, end),
+            Lexeme::Text(text) => {
+                let number = self.texts.len() as u32;
+                self.texts.push(text)?;
+                self.add_token(Kind::Text(number), at, end)
+            }
+            Lexeme::Name => {
+                let number = number_of(&mut self.names, bytes)? as u32;
+                self.add_token(Kind::Name(Name::Other(number)), at, end)
+            }
+        }
+    }
+}
+
+/// What is read of a script, and the first place where no token begins, if there is one. It fails only for want of
+/// memory.
+pub fn lex<'a>(alloc: Global, bytes: &'a [u8]) -> Result<(Lexer<'a>, Option<usize>), AllocError>
+    requires { length bytes.now < 2 ^ 32 }
+    ensures read { IfOk result (λ read. (lexed_of read.0, read.1) ≡ lexed bytes.now) }
+{
+    let mut lexer = Lexer::new(alloc);
+    let mut at = 0;
+    while at < bytes.len() {
+        match gap_at(bytes, at, lexer.is_end_blank()) {
+            Some(more) => {
+                lexer.add_gap();
+                at = at + 1 + more;
+            }
+            None => match lexeme_at(alloc, bytes, at)? {
+                Some((lexeme, more)) => {
+                    let end = at + 1 + more;
+                    lexer.add(lexeme, at, slice(bytes, at, end))?;
+                    at = end;
+                }
+                None => return Ok((lexer, Some(at))),
+            },
+        }
+    }
+    Ok((lexer, None))
+}

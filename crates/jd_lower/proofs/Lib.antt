@@ -1,0 +1,5 @@
+pub mod Trees
+pub mod Lowered
+pub mod Printing
+pub mod Spelling
+pub mod Numbering

@@ -1,0 +1,5 @@
+pub mod Steps
+pub mod Names
+pub mod Sums
+pub mod Lowering
+pub mod Laws

@@ -1,0 +1,123 @@
+//! Calls that have an effect.
+ghost use Rattle.std.specs.Prelude.{◌≡◌, IfOk};
+ghost use Rattle.jd_grammar.specs.Trees.{none, more, just};
+ghost use Rattle.jd_tree.specs.Plain.{plain, plain_item, plain_listing};
+ghost use Rattle.jd_lower.specs.Steps.{Lowers};
+ghost use Rattle.jd_lower.specs.Lowering.{function_of, fetched, remote_call, body_of};
+
+use crate::fault::LowerFault;
+use crate::names::name_in;
+use crate::sums::{is_comma, is_none, lower_sum, name_of};
+use jd_tree::tree as syntax;
+use jd_tree::tree::{Item, Listing};
+use jd_value::{Block, Body, Expr, OutOfMemory, Shared, Stmt, Txt};
+use sqlite_items::Items;
+use std::alloc::Global;
+
+/// A function of one value.
+#[derive(Drop)]
+pub struct Function {
+    pub parameter: Shared<Txt>,
+    pub body: Expr,
+}
+
+/// A call in another process.
+#[derive(Drop)]
+pub struct RemoteCall {
+    pub function: Function,
+    pub process: Expr,
+    pub argument: Expr,
+}
+
+/// The variable that a fetch waits for.
+pub fn lower_fetched(
+    alloc: Global,
+    names: &[Shared<Txt>],
+    listing: &Listing,
+) -> Result<Shared<Txt>, LowerFault>
+    ensures { let inside = plain_listing listing.now in Lowers (fetched names.now inside.most inside.last) result }
+{
+    match &listing.last {
+        Some(x) => {
+            if is_none(listing.items.as_slice()) {
+                name_in(alloc, names, name_of(x))
+            } else {
+                Err(LowerFault::NotBuilt)
+            }
+        }
+        None => Err(LowerFault::NotBuilt),
+    }
+}
+
+fn lower_function(
+    alloc: Global,
+    names: &[Shared<Txt>],
+    x: &syntax::Expr,
+) -> Result<Function, LowerFault>
+    ensures { Lowers (function_of names.now (plain x.now)) result }
+{
+    match x {
+        syntax::Expr::Lambda(parameter, _, body) => {
+            let parameter = name_in(alloc, names, name_of(parameter.get()))?;
+            let body = lower_sum(alloc, names, body.get())?;
+            Ok(Function { parameter, body })
+        }
+        _ => Err(LowerFault::NotBuilt),
+    }
+}
+
+fn lower_parts(
+    alloc: Global,
+    names: &[Shared<Txt>],
+    function: &Item,
+    process: &Item,
+    argument: &syntax::Expr,
+) -> Result<RemoteCall, LowerFault>
+    ensures { let first = plain_item function.now in
+        let second = plain_item process.now in
+        Lowers (remote_call names.now (more first.0 first.1 (more second.0 second.1 none)) (just (plain argument.now))) result }
+{
+    if !is_comma(function.separator.kind) || !is_comma(process.separator.kind) {
+        return Err(LowerFault::NotBuilt);
+    }
+    let function = lower_function(alloc, names, &function.expr)?;
+    let process = lower_sum(alloc, names, &process.expr)?;
+    let argument = lower_sum(alloc, names, argument)?;
+    Ok(RemoteCall {
+        function,
+        process,
+        argument,
+    })
+}
+
+/// What a remote call runs, and where.
+pub fn lower_remote_call(
+    alloc: Global,
+    names: &[Shared<Txt>],
+    listing: &Listing,
+) -> Result<RemoteCall, LowerFault>
+    ensures { let inside = plain_listing listing.now in Lowers (remote_call names.now inside.most inside.last) result }
+{
+    let Some(argument) = &listing.last else {
+        return Err(LowerFault::NotBuilt);
+    };
+    match listing.items.as_slice() {
+        [function, process] => lower_parts(alloc, names, function, process, argument),
+        _ => Err(LowerFault::NotBuilt),
+    }
+}
+
+/// The body of a function of one value.
+pub fn body_of(alloc: Global, number: u64, function: Function) -> Result<Body, OutOfMemory>
+    ensures { IfOk result (λ body. body ≡ body_of number function) }
+{
+    let mut parameters = Items::new(alloc);
+    parameters.push(function.parameter.get().copy()?)?;
+    let mut stmts = Items::new(alloc);
+    stmts.push(Stmt::Value(function.body))?;
+    Ok(Body {
+        number,
+        parameters: Shared::new(alloc, parameters)?,
+        block: Shared::new(alloc, Block { stmts })?,
+    })
+}

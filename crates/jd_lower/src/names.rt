@@ -1,0 +1,110 @@
+//! The texts of names.
+ghost use Rattle.std.specs.Prelude.{◌≡◌, IfOk, option_map};
+ghost use Rattle.jd_grammar.specs.declared.token.Kind.TheVariants as kind;
+ghost use Rattle.jd_lower.specs.Names as names_spec;
+ghost use Rattle.jd_lower.specs.Names.{word_text, name_text, name_in};
+ghost use Rattle.jd_lower.specs.Steps.{Lowers};
+
+use crate::fault::LowerFault;
+use jd_grammar::token::{Kind, Name, Word};
+use jd_lexer::Text;
+use jd_value::{OutOfMemory, Shared, Txt};
+use sqlite_items::{Items, at};
+use std::alloc::Global;
+
+#[tactic(auto, unfolding(crate::specs::Names::word_text))]
+fn word_text(word: Word) -> &'static [u8]
+    ensures { result.now ≡ word_text word }
+{
+    match word {
+        Word::Any => b"Any",
+        Word::Channel => b"Channel",
+        Word::Distributed => b"Distributed",
+        Word::DistributedArrays => b"DistributedArrays",
+        Word::Div => b"div",
+        Word::Finalize => b"finalize",
+        Word::Int => b"Int",
+        Word::Max => b"max",
+        Word::Min => b"min",
+        Word::Mod => b"mod",
+        Word::Println => b"println",
+        Word::Push => b"push!",
+        Word::Rem => b"rem",
+        Word::RemoteChannel => b"RemoteChannel",
+        Word::Typemax => b"typemax",
+        Word::Typemin => b"typemin",
+        Word::Xor => b"xor",
+    }
+}
+
+/// Each name with many owners, so that its uses share one text.
+pub fn shared_names(alloc: Global, names: &[Text]) -> Result<Items<Shared<Txt>>, OutOfMemory>
+    ensures { IfOk result (λ shared. shared ≡ names.now) }
+{
+    let mut shared = Items::new(alloc);
+    for name in names {
+        let name = Txt::from_bytes(alloc, name.as_slice())?;
+        shared.push(Shared::new(alloc, name)?)?;
+    }
+    Ok(shared)
+}
+
+/// How a name is spelled.
+fn name_text(names: &[Shared<Txt>], name: Name) -> &[u8]
+    ensures { result.now ≡ name_text names.now name }
+{
+    match name {
+        Name::Word(word) => word_text(word),
+        Name::Other(n) => match at(names, n as usize) {
+            Some(name) => name.get().as_bytes(),
+            None => &[],
+        },
+    }
+}
+
+/// The name of a variable.
+pub fn name_of_variable(
+    alloc: Global,
+    names: &[Shared<Txt>],
+    name: Name,
+) -> Result<Shared<Txt>, OutOfMemory>
+    ensures { IfOk result (λ text. text ≡ name_text names.now name) }
+{
+    if let Name::Other(n) = name
+        && let Some(name) = at(names, n as usize)
+    {
+        return name.share();
+    }
+    let text = Txt::from_bytes(alloc, name_text(names, name))?;
+    Shared::new(alloc, text)
+}
+
+/// The name of a variable, where the token is a name.
+pub fn name_in(alloc: Global, names: &[Shared<Txt>], kind: Kind) -> Result<Shared<Txt>, LowerFault>
+    ensures { Lowers (name_in names.now kind) result }
+{
+    match kind {
+        Kind::Name(name) => Ok(name_of_variable(alloc, names, name)?),
+        _ => Err(LowerFault::NotBuilt),
+    }
+}
+
+#[tactic(auto, unfolding(crate::specs::Names::fetch_text))]
+pub fn is_fetch(names: &[Shared<Txt>], kind: Kind) -> bool
+    ensures { result ≡ names_spec.is_fetch names.now kind }
+{
+    match kind {
+        Kind::Name(name) => name_text(names, name) == b"fetch".as_slice(),
+        _ => false,
+    }
+}
+
+#[tactic(auto, unfolding(crate::specs::Names::remote_call_text))]
+pub fn is_remote_call(names: &[Shared<Txt>], kind: Kind) -> bool
+    ensures { result ≡ names_spec.is_remote_call names.now kind }
+{
+    match kind {
+        Kind::Name(name) => name_text(names, name) == b"remotecall".as_slice(),
+        _ => false,
+    }
+}

@@ -1,0 +1,83 @@
+//! Scripts, as programs.
+ghost use Rattle.std.specs.Prelude.{◌≡◌, Some, map, IfOk};
+ghost use Rattle.jd_tree.specs.PlainScript.{plain_block, plain_line};
+ghost use Rattle.jd_syntax.specs.Answers.{plain_script};
+ghost use Rattle.jd_lower.specs.Steps.{Gives, Lowers};
+ghost use Rattle.jd_lower.specs.Lowering.{lines_on, program_of, block_of, lowered};
+
+use crate::draft::Draft;
+use crate::fault::LowerFault;
+use crate::lines::lower_place;
+use crate::names::shared_names;
+use jd_lexer::Text;
+use jd_syntax::Script;
+use jd_tree::script as syntax;
+use jd_value::{Block, Body, OutOfMemory, Program, Shared, Stmt, Txt};
+use sqlite_items::Items;
+use std::alloc::Global;
+
+/// Statements as the body of main.
+fn program_of(alloc: Global, stmts: Items<Stmt>) -> Result<Program, OutOfMemory>
+    ensures { IfOk result (λ program. program ≡ program_of stmts) }
+{
+    Ok(Program {
+        body: Body {
+            number: 0,
+            parameters: Shared::new(alloc, Items::new(alloc))?,
+            block: Shared::new(alloc, Block { stmts })?,
+        },
+    })
+}
+
+fn lower_lines(
+    alloc: Global,
+    texts: &[Text],
+    names: &[Shared<Txt>],
+    lines: &[syntax::Line],
+    draft: &mut Draft,
+) -> Result<(), LowerFault>
+    ensures { Gives (lines_on texts.now names.now (Some (tt, draft.old)) (map plain_line lines.now)) result draft.new }
+{
+    for line in lines {
+        match lower_place(alloc, texts, names, &line.stmt, draft) {
+            Ok(()) => {}
+            Err(fault) => return Err(fault),
+        }
+    }
+    Ok(())
+}
+
+fn lower_block(
+    alloc: Global,
+    texts: &[Text],
+    names: &[Shared<Txt>],
+    block: &syntax::Block,
+    draft: &mut Draft,
+) -> Result<(), LowerFault>
+    ensures { Gives (block_of texts.now names.now (plain_block block.now) draft.old) result draft.new }
+{
+    match lower_lines(alloc, texts, names, block.lines.as_slice(), draft) {
+        Ok(()) => lower_place(alloc, texts, names, &block.last, draft),
+        Err(fault) => Err(fault),
+    }
+}
+
+/// The program of a script, in one pass over its lines.
+///
+/// A script that isn't built yet is `NotBuilt`: one with any line but a call of `println` with texts, sums and fetches,
+/// an assignment of a sum, of `fetch(x)` or of `remotecall(p -> s, e, a)`, and an empty line.
+pub fn lower(alloc: Global, script: &Script) -> Result<Program, LowerFault>
+    // The program is that of the script, and `NotBuilt` says that it has none.
+    ensures { Lowers (lowered (plain_script script.now)) result }
+{
+    let names = shared_names(alloc, script.names.as_slice())?;
+    let mut draft = Draft::new(alloc);
+    lower_block(
+        alloc,
+        script.texts.as_slice(),
+        names.as_slice(),
+        &script.block,
+        &mut draft,
+    )?;
+    Ok(program_of(alloc, draft.stmts)?)
+}

@@ -1,0 +1,14 @@
+use Rattle.jd_tree.specs.Code.{plain_measured}
+use Rattle.jd_reader.proofs.depth.behind.Goals as goal
+
+pub returns-in-Choice : goal.returns-in-Choice
+returns-in-Choice c = λ e h. rw c.in-Choice.is (c.choice_profile.ensures (plain_measured c.in-Choice.condition) (plain_measured c.in-Choice.chosen) e c.in-Choice.field-1 c.in-Choice.field-3 c.in-Choice.condition.measured c.in-Choice.chosen.measured h)
+
+pub returns-in-Lambda : goal.returns-in-Lambda
+returns-in-Lambda c = λ e h. rw c.in-Lambda.is (c.lambda_profile.ensures (plain_measured c.in-Lambda.names) e c.in-Lambda.field-1 c.in-Lambda.names.measured h)
+
+pub returns-in-Spawn : goal.returns-in-Spawn
+returns-in-Spawn c = λ e h. rw c.in-Spawn.is (c.spawn_profile.ensures (plain_measured c.in-Spawn.atom) e c.in-Spawn.field-0 c.in-Spawn.atom.measured h)
+
+pub returns-in-Keyword : goal.returns-in-Keyword
+returns-in-Keyword c = λ e h. rw c.in-Keyword.is (c.keyword_profile.ensures e c.in-Keyword.field-0 c.in-Keyword.field-1 h)

@@ -1,6 +1,0 @@
-use Rattle.std.proofs.Common.{◌≡◌, map, drop}
-use Rattle.jd_syntax.specs.Words.{kind_among}
-use Rattle.jd_syntax.proofs.words.kind_among.Given as goal
-
-abbrev pub invariant-loop-word : goal.invariant-loop-word
-invariant-loop-word l = kind_among (map (λ w. (w.0.now, w.1)) (drop l.word-index l.words)) l.name ≡ kind_among (map (λ w. (w.0.now, w.1)) l.words) l.name

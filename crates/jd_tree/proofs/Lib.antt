@@ -1,0 +1,9 @@
+pub mod Measuring
+pub mod Levels
+pub mod Trees
+pub mod Lists
+pub mod Widths
+pub mod Statements
+pub mod Naming
+pub mod Peeling
+pub mod Definitions

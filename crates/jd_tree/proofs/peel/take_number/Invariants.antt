@@ -1,0 +1,12 @@
+use Rattle.std.proofs.Common.{◌≡◌, true}
+use Rattle.jd_grammar.specs.Rows.{joined, first_of, cells_of}
+use Rattle.jd_tree.specs.Plain.{plain}
+use Rattle.jd_tree.specs.Peeling.{taken, is_tight_chain}
+use Rattle.jd_tree.proofs.peel.take_number.Given as goal
+
+abbrev pub invariant-inner : goal.invariant-inner
+invariant-inner l = record {
+  tight : is_tight_chain (plain l.current) ≡ true;
+  first : first_of (plain l.current) ≡ first_of (plain l.fn.expr);
+  cells : joined (cells_of (plain l.current)) (taken l.taken_off) ≡ joined (cells_of (plain l.fn.expr)) (taken l.fn.taken_off);
+}
