@@ -1,4 +1,5 @@
 pub mod Events
 pub mod Moving
 pub mod Views
+pub mod Whole
 pub mod Written

@@ -15,9 +15,9 @@ use Rattle.jd_world.specs.Outside.{Tries, Steps, Finds, IsStill, TakesOff, IsEmp
 pub steps_err : (A : Type 0) (e : Event) (t u : Told) (f : StepFault) → Tries {A = A} e t u (Err f) → Steps {A = A} e t u (Err f)
 steps_err A e t u NotPossible h = h
 steps_err A e t u Limit h = absurd h
-steps_err A e t u Stranger h = h
-steps_err A e t u Spent h = h
-steps_err A e t u OutOfMemory h = h
+steps_err A e t u Stranger h = h.1
+steps_err A e t u Spent h = h.1
+steps_err A e t u OutOfMemory h = h.1
 
 pub not_main : (begun : Option Start) (p : ℕ) → IsWorker begun p → (p == 1) ≡ false
 not_main None p h = absurd h

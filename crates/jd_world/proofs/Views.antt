@@ -1,5 +1,5 @@
 -- What the calls of the outside do to the told world.
-use Rattle.std.specs.Prelude.{◌≡◌, ◌≢◌, ℕ, ◌+◌, ◌==◌, ◌&&◌, List, [], ◌∷◌, ◌++◌, Option, None, Some, Bool, true, false, if◌then◌else◌, MatchOption, nat_eq}
+use Rattle.std.specs.Prelude.{◌≡◌, ◌≢◌, ℕ, ◌+◌, ◌==◌, ◌&&◌, List, [], ◌∷◌, ◌++◌, Option, None, Some, Bool, true, false, if◌then◌else◌, Err, MatchOption, nat_eq}
 use Rattle.std.proofs.Common.{refl, sym, ap, subst, ◌∙◌, arith}
 use Rattle.std.proofs.lemmas.Bool.Decides.{nat_tests}
 use Rattle.std.proofs.Math.Path.{fun_ext}
@@ -16,12 +16,14 @@ use Rattle.jd_model.specs.Table.{put, put2}
 use Rattle.jd_model.specs.Node.{Node, ran, first_node}
 use Rattle.jd_model.specs.World.{Told, happens}
 use Rattle.jd_node.specs.Mail.{mail_of, no_mail}
+use Rattle.jd_node.specs.declared.fault.NodeFault.{NodeFault}
+use Rattle.jd_node.specs.declared.fault.NodeFault.TheVariants as node
 use Rattle.jd_node.specs.declared.mail.Mail.{Mail}
+use Rattle.jd_world.specs.declared.step_fault.StepFault.{StepFault}
 use Rattle.jd_world.specs.declared.worker.Worker.{Worker}
 use Rattle.jd_world.specs.declared.workers.Workers.{Workers}
 use Rattle.jd_world.specs.Workers.{nodes_of, links_to, no_links, EmitsAt, ArrivesAt, RunsAt, IsIdle, CanMove}
-use Rattle.jd_world.specs.Fabric.{sent_to}
-use Rattle.jd_world.specs.Outside.{links_of, told_with, told_first, later, IsStill, CanHappen, TakesOff}
+use Rattle.jd_world.specs.Outside.{links_of, told_with, told_first, linked, later, broken_by, IsStill, CanHappen, Tries, TakesOff}
 use Rattle.jd_world.proofs.Events.{inside_not, emit_not, emit_happens, emit_can, deliver_not, deliver_happens, deliver_can, run_not, run_happens, run_can}
 use Rattle.jd_world.proofs.Written.{node_at, link_at, no_node, no_link}
 
@@ -86,22 +88,42 @@ pub emit_nothing : (a b : Workers) (m : Mail) (n : ℕ) (ms : List Mark) (p q : 
     → (happens (told_with a m n ms) (Emit p q) ≡ None) × (told_with b m n ms ≡ told_with a m n ms)
 emit_nothing a b m n ms p q none e l = (emit_not (told_with a m n ms) p q none, told_same a b m n ms e l)
 
-pub emit_main : (a b : Workers) (m k : Mail) (n : ℕ) (ms : List Mark) (p : ℕ) (x : Msg) → (p == 1) ≡ false → EmitsAt p 1 x (nodes_of a) (nodes_of b) → links_to b ≡ links_to a
-    → mail_of k ≡ put (mail_of m) p (mail_of m p ++ x ∷ []) → happens (told_with a m n ms) (Emit p 1) ≡ Some (later (told_with b k n ms))
-emit_main a b m k n ms p x c e l h =
-    let links : links_of (mail_of k) (links_to b) ≡ put2 (links_of (mail_of m) (links_to a)) p 1 (links_of (mail_of m) (links_to a) p 1 ++ x ∷ []) =
-    (λ i. links_of (h i) (l i)) ∙ links_main (mail_of m) (links_to a) p (mail_of m p ++ x ∷ [])
+-- a message stands at the end of a link to process 1
+pub linked_main : (a : Workers) (m k : Mail) (n : ℕ) (ms : List Mark) (p : ℕ) (x : Msg) → mail_of k ≡ put (mail_of m) p (mail_of m p ++ x ∷ [])
+    → told_with a k n ms ≡ linked (told_with a m n ms) p 1 x
+linked_main a m k n ms p x h =
+    let links : links_of (mail_of k) (links_to a) ≡ put2 (links_of (mail_of m) (links_to a)) p 1 (links_of (mail_of m) (links_to a) p 1 ++ x ∷ []) =
+    ap (λ (l : ℕ → List Msg). links_of l (links_to a)) h ∙ links_main (mail_of m) (links_to a) p (mail_of m p ++ x ∷ [])
     ∙ ap (λ (xs : List Msg). put2 (links_of (mail_of m) (links_to a)) p 1 (xs ++ x ∷ [])) (sym (link_main (mail_of m) (links_to a) p)) in
-    emit_happens (told_with a m n ms) p 1 x e.rest (nodes_of b) _ c e.front e.after links
+    λ i. record { outside = record { net = record { nodes = nodes_of a; links = links i }; events = n }; marks = ms }
 
-pub emit_worker : (a w b : Workers) (m : Mail) (n : ℕ) (ms : List Mark) (p q : ℕ) (x : Msg) → (p == 1) ≡ false → (q == 1) ≡ false → EmitsAt p q x (nodes_of a) (nodes_of w)
-    → links_to w ≡ links_to a → nodes_of b ≡ nodes_of w → links_to b ≡ put2 (links_to w) q p (links_to w q p ++ x ∷ [])
-    → happens (told_with a m n ms) (Emit p q) ≡ Some (later (told_with b m n ms))
-emit_worker a w b m n ms p q x c d e l f h =
+-- or of a link to a worker
+pub linked_worker : (a b : Workers) (m : Mail) (n : ℕ) (ms : List Mark) (p q : ℕ) (x : Msg) → (q == 1) ≡ false → nodes_of b ≡ nodes_of a
+    → links_to b ≡ put2 (links_to a) q p (links_to a q p ++ x ∷ []) → told_with b m n ms ≡ linked (told_with a m n ms) p q x
+linked_worker a b m n ms p q x c e h =
     let links : links_of (mail_of m) (links_to b) ≡ put2 (links_of (mail_of m) (links_to a)) p q (links_of (mail_of m) (links_to a) p q ++ x ∷ []) =
-    ap (links_of (mail_of m)) (h ∙ ap (λ (t : ℕ → ℕ → List Msg). put2 t q p (t q p ++ x ∷ [])) l) ∙ links_worker (mail_of m) (links_to a) p q (links_to a q p ++ x ∷ []) d
-    ∙ ap (λ (xs : List Msg). put2 (links_of (mail_of m) (links_to a)) p q (xs ++ x ∷ [])) (sym (link_worker (mail_of m) (links_to a) p q d)) in
-    emit_happens (told_with a m n ms) p q x e.rest (nodes_of b) _ c e.front (f ∙ e.after) links
+    ap (links_of (mail_of m)) h ∙ links_worker (mail_of m) (links_to a) p q (links_to a q p ++ x ∷ []) c
+    ∙ ap (λ (xs : List Msg). put2 (links_of (mail_of m) (links_to a)) p q (xs ++ x ∷ [])) (sym (link_worker (mail_of m) (links_to a) p q c)) in
+    λ i. record { outside = record { net = record { nodes = e i; links = links i }; events = n }; marks = ms }
+
+pub emit_made : (a w : Workers) (m : Mail) (n : ℕ) (ms : List Mark) (p q : ℕ) (x : Msg) (u : Told) → (p == 1) ≡ false → EmitsAt p q x (nodes_of a) (nodes_of w)
+    → links_to w ≡ links_to a → u ≡ linked (told_with w m n ms) p q x → happens (told_with a m n ms) (Emit p q) ≡ Some (later u)
+emit_made a w m n ms p q x u c e l h =
+    emit_happens (told_with a m n ms) p q x e.rest (nodes_of w) _ c e.front e.after
+    (ap (λ (t : ℕ → ℕ → List Msg). put2 (links_of (mail_of m) t) p q (links_of (mail_of m) t p q ++ x ∷ [])) l)
+    ∙ ap (λ (z : Told). Some (later z)) (sym h)
+
+pub emit_broken : (a w : Workers) (m : Mail) (n : ℕ) (ms : List Mark) (p q : ℕ) (x : Msg) → (p == 1) ≡ false → EmitsAt p q x (nodes_of a) (nodes_of w)
+    → CanHappen (told_with a m n ms) (Emit p q)
+emit_broken a w m n ms p q x c e = emit_can (told_with a m n ms) p q c (λ none. let f = e.front in cc)
+
+-- the event is possible, and a step of its process failed
+pub tries_broken : (A : Type 0) (e : Event) (t u : Told) (f : NodeFault) (g : StepFault) → g ≡ broken_by f → CanHappen t e → u.marks ≡ t.marks → Tries {A = A} e t u (Err g)
+tries_broken A e t u f g same can h = subst (λ (x : StepFault). Tries {A = A} e t u (Err x)) (sym same) (by_fault f)
+  where
+    by_fault : (x : NodeFault) → Tries {A = A} e t u (Err (broken_by x))
+    by_fault node.Limit = (can, h)
+    by_fault node.OutOfMemory = (can, h)
 
 pub arrive_nothing : (a b : Workers) (m : Mail) (n : ℕ) (ms ms' : List Mark) (p q : ℕ) → (q == 1) ≡ false → links_to a q p ≡ [] → nodes_of b ≡ nodes_of a → links_to b ≡ links_to a
     → ms' ≡ ms → (happens (told_with a m n ms) (Deliver p q) ≡ None) × (told_with b m n ms' ≡ told_with a m n ms)
@@ -113,6 +135,9 @@ pub arrive_happens : (a b : Workers) (m : Mail) (n : ℕ) (ms ms' : List Mark) (
 arrive_happens a b m n ms ms' p q c x =
     deliver_happens (told_with a m n ms) p q x.msg x.rest (nodes_of b) _ ms' c (link_worker (mail_of m) (links_to a) p q c ∙ x.front) x.nodes
     (ap (links_of (mail_of m)) x.links ∙ links_worker (mail_of m) (links_to a) p q x.rest c) x.recorded
+
+pub arrive_can : (a : Workers) (m : Mail) (n : ℕ) (ms : List Mark) (p q : ℕ) → (q == 1) ≡ false → links_to a q p ≢ [] → CanHappen (told_with a m n ms) (Deliver p q)
+arrive_can a m n ms p q c some = deliver_can (told_with a m n ms) p q c (λ none. some (sym (link_worker (mail_of m) (links_to a) p q c) ∙ none))
 
 pub run_nothing : (a b : Workers) (m : Mail) (n : ℕ) (ms ms' : List Mark) (p : ℕ) → ran p (nodes_of a p) (nodes_of a p).ready ≡ None → nodes_of b ≡ nodes_of a → links_to b ≡ links_to a
     → ms' ≡ ms → (happens (told_with a m n ms) (Run p) ≡ None) × (told_with b m n ms' ≡ told_with a m n ms)
@@ -197,12 +222,3 @@ taken a m k n ms p x rest front e = record {
 
 pub nothing_taken : (a : Workers) (m : Mail) (n : ℕ) (ms : List Mark) → ((p : ℕ) → mail_of m p ≡ []) → (p : ℕ) → (told_with a m n ms).outside.net.links p 1 ≡ []
 nothing_taken a m n ms h p = link_main (mail_of m) (links_to a) p ∙ h p
-
--- a message is sent by process 1
-pub sent : (a b : Workers) (m : Mail) (n : ℕ) (ms : List Mark) (q : ℕ) (x : Msg) → (q == 1) ≡ false → nodes_of b ≡ nodes_of a
-    → links_to b ≡ put2 (links_to a) q 1 (links_to a q 1 ++ x ∷ []) → told_with b m n ms ≡ sent_to (told_with a m n ms) q x
-sent a b m n ms q x c e h =
-    let links : links_of (mail_of m) (links_to b) ≡ put2 (links_of (mail_of m) (links_to a)) 1 q (links_of (mail_of m) (links_to a) 1 q ++ x ∷ []) =
-    ap (links_of (mail_of m)) h ∙ links_worker (mail_of m) (links_to a) 1 q (links_to a q 1 ++ x ∷ []) c
-    ∙ ap (λ (xs : List Msg). put2 (links_of (mail_of m) (links_to a)) 1 q (xs ++ x ∷ [])) (sym (link_worker (mail_of m) (links_to a) 1 q c)) in
-    λ i. record { outside = record { net = record { nodes = e i; links = links i }; events = n }; marks = ms }

@@ -1,5 +1,5 @@
 -- Rows of workers as functions.
-use Rattle.std.specs.Prelude.{◌≡◌, ℕ, ◌==◌, ◌&&◌, ◌∷◌, ◌++◌, List, [], Option, None, Some, Bool, true, false, cond, if◌then◌else◌, IsSome, Result, Ok, Err, OnOk, IfOk, MatchOption, map}
+use Rattle.std.specs.Prelude.{◌≡◌, ◌≢◌, ℕ, ◌==◌, ◌&&◌, ◌∷◌, ◌++◌, List, [], Option, None, Some, Bool, true, false, cond, if◌then◌else◌, IsSome, Result, Ok, Err, OnOk, OnErr, IfOk, MatchOption, map}
 use Rattle.std.specs.Ordering.{nat_cmp}
 use Rattle.std.specs.BTreeMap.{is_at, get, Updates}
 use Rattle.std.specs.Cmp.{unsigned_ties}
@@ -124,6 +124,14 @@ pub on_ok : {T E P Q : Type 0} (r : Result T E) → OnOk r P → (P → Q) → O
 on_ok (Ok v) p f = f p
 on_ok (Err e) p f = p
 
+pub on_ok_two : {T E P Q R : Type 0} (r : Result T E) → OnOk r P → OnOk r Q → (P → Q → R) → OnOk r R
+on_ok_two (Ok v) p q f = f p q
+on_ok_two (Err e) p q f = p
+
+pub on_err : {T E P Q : Type 0} (r : Result T E) → OnErr r P → (P → Q) → OnErr r Q
+on_err (Ok v) p f = p
+on_err (Err e) p f = f p
+
 pub if_ok : {T E : Type 0} {P Q : T → Type 0} (r : Result T E) → IfOk r P → ((v : T) → P v → Q v) → IfOk r Q
 if_ok (Ok v) p f = f v p
 if_ok (Err e) p f = p
@@ -142,7 +150,7 @@ emitted_at a b p q w w' (Some m) h s =
     }
 
 -- a message arrives at a worker
-pub arrives_at : (a b : Workers) (q from : ℕ) (w w' : Worker) (ms ms' : List Mark) → Written a b q w w' → Arrives q from w w' ms ms' → ArrivesAt q from a b ms ms'
+pub arrives_at : (a b : Workers) (q from : ℕ) (w w' : Worker) (ms ms' : List Mark) → Written a b q w w' → Arrives q from (node_of w.node) (node_of w'.node) (mail_of w.links) (mail_of w'.links) ms ms' → ArrivesAt q from a b ms ms'
 arrives_at a b q from w w' ms ms' h x = record {
   msg = x.msg;
   rest = x.rest;
@@ -156,8 +164,11 @@ pub arrives_not : (a b : Workers) (q from : ℕ) (w w' : Worker) → Written a b
     → (links_to a q from ≡ []) × (nodes_of b ≡ nodes_of a) × (links_to b ≡ links_to a)
 arrives_not a b q from w w' h none l n = (ap (λ (k : ℕ → List Msg). k from) h.link ∙ none, same_nodes a b q w w' h n, same_links a b q w w' h l)
 
+pub arrives_can : (a : Workers) (q from : ℕ) (w : Worker) → Some w ≡ get nat_cmp a.rows q → mail_of w.links from ≢ [] → links_to a q from ≢ []
+arrives_can a q from w e some = λ none. some (sym (ap (λ (k : ℕ → List Msg). k from) (link_at a q w e)) ∙ none)
+
 -- a task of a worker goes on
-pub runs_at : (a b : Workers) (q : ℕ) (w w' : Worker) (ms ms' : List Mark) → Written a b q w w' → Runs q w w' ms ms' → RunsAt q a b ms ms'
+pub runs_at : (a b : Workers) (q : ℕ) (w w' : Worker) (ms ms' : List Mark) → Written a b q w w' → Runs q (node_of w.node) (node_of w'.node) ms ms' → RunsAt q a b ms ms'
 runs_at a b q w w' ms ms' h x = record {
   step = x.step;
   ran = subst (λ (n : Node). ran q n n.ready ≡ Some x.step) (sym h.node) x.ran;
@@ -168,3 +179,6 @@ runs_at a b q w w' ms ms' h x = record {
 pub runs_not : (a b : Workers) (q : ℕ) (w w' : Worker) → Written a b q w w' → ran q (node_of w.node) (node_of w.node).ready ≡ None → node_of w'.node ≡ node_of w.node
     → (ran q (nodes_of a q) (nodes_of a q).ready ≡ None) × (nodes_of b ≡ nodes_of a)
 runs_not a b q w w' h none n = (subst (λ (m : Node). ran q m m.ready ≡ None) (sym h.node) none, same_nodes a b q w w' h n)
+
+pub runs_can : (a : Workers) (q : ℕ) (w : Worker) → Some w ≡ get nat_cmp a.rows q → ran q (node_of w.node) (node_of w.node).ready ≢ None → ran q (nodes_of a q) (nodes_of a q).ready ≢ None
+runs_can a q w e some = subst (λ (m : Node). ran q m m.ready ≢ None) (sym (node_at a q w e)) some

@@ -1,3 +1,4 @@
 pub mod Fabric
 pub mod Workers
 pub mod Outside
+pub mod World

@@ -1,10 +1,13 @@
 -- The world outside process 1, as the code's maps and lists tell it, and what calls do to it.
-use Rattle.std.specs.Prelude.{◌≡◌, ◌≢◌, ℕ, ◌+◌, ◌==◌, ◌≤◌, List, [], ◌∷◌, None, Some, Result, Ok, Err, ⊤, if◌then◌else◌}
+use Rattle.std.specs.Prelude.{◌≡◌, ◌≢◌, ℕ, ◌+◌, ◌==◌, ◌≤◌, List, [], ◌∷◌, ◌++◌, None, Some, Result, Ok, Err, ⊤, if◌then◌else◌}
 use Rattle.jd_task.specs.declared.msg.Msg.{Msg}
 use Rattle.jd_model.specs.declared.event.Event.{Event}
 use Rattle.jd_model.specs.declared.event.Event.TheVariants.{Emit, Deliver, Run}
+use Rattle.jd_model.specs.Table.{put2}
 use Rattle.jd_model.specs.World.{Told, first_net, happens}
 use Rattle.jd_model.specs.declared.mark.Mark.{Mark}
+use Rattle.jd_node.specs.declared.fault.NodeFault.{NodeFault}
+use Rattle.jd_node.specs.declared.fault.NodeFault.TheVariants as node
 use Rattle.jd_node.specs.declared.mail.Mail.{Mail}
 use Rattle.jd_node.specs.Mail.{mail_of}
 use Rattle.jd_world.specs.declared.fabric.Arrival.{Arrival}
@@ -12,7 +15,7 @@ use Rattle.jd_world.specs.declared.fabric.Arrival.TheVariants.{Message, Quiet}
 use Rattle.jd_world.specs.declared.outside.Outside.{Outside}
 use Rattle.jd_world.specs.declared.workers.Workers.{Workers}
 use Rattle.jd_world.specs.declared.step_fault.StepFault.{StepFault}
-use Rattle.jd_world.specs.declared.step_fault.StepFault.TheVariants.{NotPossible, Limit}
+use Rattle.jd_world.specs.declared.step_fault.StepFault.TheVariants.{NotPossible, Limit, Spent, OutOfMemory}
 use Rattle.jd_world.specs.Fabric.{ReceivesA, MovesMarks, SameMarks, IsFull, taken_off}
 use Rattle.jd_world.specs.Workers.{nodes_of, links_to}
 
@@ -34,17 +37,35 @@ told_of o = told_with o.workers o.to_main o.events o.marks.items
 abbrev pub told_first : ℕ → Told
 told_first count = record { outside = record { net = first_net count; events = 0 }; marks = [] }
 
+-- The message stands at the end of the link between these processes.
+abbrev pub linked : Told → ℕ → ℕ → Msg → Told
+linked t p q m =
+    record t {
+      outside = record t.outside {
+        net = record t.outside.net { links = put2 t.outside.net.links p q (t.outside.net.links p q ++ m ∷ []) };
+      };
+    }
+
 -- One event later.
 abbrev pub later : Told → Told
 later t = record t { outside = record t.outside { events = t.outside.events + 1 } }
 
--- The event happened, but that it isn't counted; or it isn't possible, and nothing changed; or it failed, and the record
--- is as it was. Limits are looked at before.
+-- The event is possible.
+abbrev pub CanHappen : Told → Event → Type 0
+CanHappen t e = happens t e ≢ None
+
+-- The fault of a world in which a step of a process failed.
+abbrev pub broken_by : NodeFault → StepFault
+broken_by node.Limit = Spent
+broken_by node.OutOfMemory = OutOfMemory
+
+-- The event happened, but that it isn't counted; or it isn't possible, and nothing changed; or it is possible and failed,
+-- and the record is as it was. Limits are looked at before.
 abbrev pub Tries : {A : Type 0} → Event → Told → Told → Result A StepFault → Type 0
 Tries e t u (Ok x) = happens t e ≡ Some (later u)
 Tries e t u (Err NotPossible) = (happens t e ≡ None) × (u ≡ t)
 Tries e t u (Err Limit) = ⊥
-Tries e t u (Err f) = SameMarks t u
+Tries e t u (Err f) = CanHappen t e × SameMarks t u
 
 -- The event happened; or it isn't possible, or a limit is reached, and nothing changed; or it failed, and the record is
 -- as it was.
@@ -59,10 +80,6 @@ pub record IsStill (t : Told) (p : ℕ) : Type 0 where
   pub emit : (q : ℕ) → happens t (Emit p q) ≡ None
   pub deliver : (q : ℕ) → happens t (Deliver q p) ≡ None
   pub run : happens t (Run p) ≡ None
-
--- The event is possible.
-abbrev pub CanHappen : Told → Event → Type 0
-CanHappen t e = happens t e ≢ None
 
 -- Nothing is on a link to process 1.
 abbrev pub IsEmptyToMain : Told → Type 0

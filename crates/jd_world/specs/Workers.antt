@@ -30,20 +30,20 @@ nodes_of ws p = worker_node ws.count (get nat_cmp ws.rows p)
 unfoldable pub links_to : Workers → ℕ → ℕ → List Msg
 links_to ws q = worker_links (get nat_cmp ws.rows q)
 
--- the first message on the link from that process arrives at the worker
-pub record Arrives (number from : ℕ) (old new : Worker) (marks marks' : List Mark) : Type 0 where
+-- the first message on the link from that process arrives at the node of this number
+pub record Arrives (number from : ℕ) (old new : Node) (old_links new_links : ℕ → List Msg) (marks marks' : List Mark) : Type 0 where
   pub msg : Msg
   pub rest : List Msg
-  pub front : mail_of old.links from ≡ msg ∷ rest
-  pub links : mail_of new.links ≡ put (mail_of old.links) from rest
-  pub node : node_of new.node ≡ (delivered from msg (node_of old.node)).node
-  pub recorded : marks' ≡ marks ++ map (marked number) (delivered from msg (node_of old.node)).effects
+  pub front : old_links from ≡ msg ∷ rest
+  pub links : new_links ≡ put old_links from rest
+  pub node : new ≡ (delivered from msg old).node
+  pub recorded : marks' ≡ marks ++ map (marked number) (delivered from msg old).effects
 
--- the oldest task of the worker that can go on goes on
-pub record Runs (number : ℕ) (old new : Worker) (marks marks' : List Mark) : Type 0 where
+-- the oldest task of the node that can go on goes on
+pub record Runs (number : ℕ) (old new : Node) (marks marks' : List Mark) : Type 0 where
   pub step : Stepped
-  pub ran : ran number (node_of old.node) (node_of old.node).ready ≡ Some step
-  pub node : node_of new.node ≡ step.node
+  pub ran : ran number old old.ready ≡ Some step
+  pub node : new ≡ step.node
   pub recorded : marks' ≡ marks ++ map (marked number) step.effects
 
 abbrev pub no_links : ℕ → ℕ → List Msg

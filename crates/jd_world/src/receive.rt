@@ -63,7 +63,7 @@ impl Outside {
     }
 
     /// A possible event of a worker or a link to it. None exactly where there is none.
-    fn possible(&self) -> Option<Event>
+    pub(crate) fn possible(&self) -> Option<Event>
         ensures { MatchOption result ((p : ℕ) → IsStill (told_of self.now) p) (λ event. CanHappen (told_of self.now) event) }
     {
         for number in self.workers.rows.keys() {

@@ -7,11 +7,11 @@ ghost use Rattle.jd_model.specs.Table.{put, put2};
 ghost use Rattle.jd_model.specs.Node.{first_node, ran};
 ghost use Rattle.jd_world.specs.Workers.{nodes_of, links_to, no_links, EmitsAt, ArrivesAt, RunsAt};
 
-use crate::step_fault::StepFault;
+use crate::process;
 use crate::worker::Worker;
 use crate::workers::Workers;
 use jd_model::Mark;
-use jd_node::{Mail, Node};
+use jd_node::{Mail, Node, NodeFault};
 use jd_task::Msg;
 use jd_value::OutOfMemory;
 use std::alloc::Global;
@@ -105,29 +105,31 @@ impl Workers {
     }
 
     /// The first message on the link between these processes arrives. False exactly where there is none.
-    pub fn arrive(&mut self, from: u32, to: u32, marks: &mut Vec<Mark>) -> Result<bool, StepFault>
+    pub fn arrive(&mut self, from: u32, to: u32, marks: &mut Vec<Mark>) -> Result<bool, NodeFault>
         ensures none { IfOk result (λ went. went ≡ false → (links_to self.old to from ≡ []) × (nodes_of self.new ≡ nodes_of self.old) × (links_to self.new ≡ links_to self.old) × (marks.new.items ≡ marks.old.items)) }
         ensures went { IfOk result (λ went. went ≡ true → ArrivesAt to from self.old self.new marks.old.items marks.new.items) }
+        ensures can { OnErr result (links_to self.old to from ≢ []) }
         ensures err { OnErr result (marks.new.items ≡ marks.old.items) }
         ensures count { self.new.count ≡ self.old.count }
     {
         match self.rows.get_mut(&to) {
             None => Ok(false),
-            Some(worker) => worker.arrive(to, from, marks),
+            Some(worker) => process::arrive(&mut worker.node, &mut worker.links, to, from, marks),
         }
     }
 
     /// The oldest task of a worker that can go on goes on. False exactly where there is none.
-    pub fn go_on(&mut self, number: u32, marks: &mut Vec<Mark>) -> Result<bool, StepFault>
+    pub fn go_on(&mut self, number: u32, marks: &mut Vec<Mark>) -> Result<bool, NodeFault>
         ensures none { IfOk result (λ went. went ≡ false → (ran number (nodes_of self.old number) (nodes_of self.old number).ready ≡ None) × (nodes_of self.new ≡ nodes_of self.old) × (marks.new.items ≡ marks.old.items)) }
         ensures went { IfOk result (λ went. went ≡ true → RunsAt number self.old self.new marks.old.items marks.new.items) }
+        ensures can { OnErr result (ran number (nodes_of self.old number) (nodes_of self.old number).ready ≢ None) }
         ensures err { OnErr result (marks.new.items ≡ marks.old.items) }
         ensures links { links_to self.new ≡ links_to self.old }
         ensures count { self.new.count ≡ self.old.count }
     {
         match self.rows.get_mut(&number) {
             None => Ok(false),
-            Some(worker) => worker.go_on(number, marks),
+            Some(worker) => process::go_on(&mut worker.node, number, marks),
         }
     }
 }

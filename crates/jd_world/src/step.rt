@@ -1,14 +1,17 @@
 //! Events of the workers and the links.
-ghost use Rattle.std.specs.Prelude.{◌≡◌, ◌==◌, ◌<◌, ◌+◌, ◌^◌, true, false};
+ghost use Rattle.std.specs.Prelude.{◌≡◌, ◌==◌, ◌<◌, ◌+◌, ◌^◌, length, OnOk, true, false};
 ghost use Rattle.jd_model.specs.declared.event.Event.TheVariants.{Emit, Deliver, Run};
-ghost use Rattle.jd_world.specs.Fabric.{IsFull, max_events};
-ghost use Rattle.jd_world.specs.Outside.{told_of, told_first, Tries, Steps};
+ghost use Rattle.jd_world.specs.Fabric.{IsFull, max_events, max_marks};
+ghost use Rattle.jd_world.specs.Outside as spec;
+ghost use Rattle.jd_world.specs.Outside.{told_of, told_first, linked, Tries, Steps};
 
 use crate::outside::Outside;
 use crate::step_fault::StepFault;
 use crate::workers::Workers;
 use jd_model::Event;
-use jd_node::Mail;
+use jd_node::{Mail, NodeFault};
+use jd_task::Msg;
+use jd_value::OutOfMemory;
 use std::alloc::Global;
 
 /// How many marks a record holds.
@@ -16,6 +19,16 @@ pub(crate) const MAX_MARKS: usize = 1_000_000;
 
 /// How many events a simulated world makes.
 pub(crate) const MAX_EVENTS: u64 = 10_000_000;
+
+/// The fault of a world in which a step of a process failed.
+pub(crate) fn broken_by(fault: NodeFault) -> StepFault
+    ensures { result ≡ spec.broken_by fault }
+{
+    match fault {
+        NodeFault::Limit => StepFault::Spent,
+        NodeFault::OutOfMemory => StepFault::OutOfMemory,
+    }
+}
 
 impl Outside {
     /// So many workers, before any event.
@@ -36,31 +49,32 @@ impl Outside {
     pub(crate) fn is_full(&self) -> bool
         ensures full { result ≡ true → IsFull (told_of self.now) }
         ensures room { result ≡ false → self.now.events < max_events }
+        ensures marks { result ≡ false → length self.now.marks.items < max_marks }
     {
         self.events >= MAX_EVENTS || self.marks.len() >= MAX_MARKS
     }
 
-    /// A message of a worker to process 1 leaves.
-    fn emit_to_main(&mut self, from: u32) -> Result<(), StepFault>
-        requires { (from == 1) ≡ false }
-        ensures tries { Tries (Emit from 1) (told_of self.old) (told_of self.new) result }
+    /// Whether the cluster has that process.
+    pub(crate) fn has(&self, process: u32) -> bool {
+        process == 1 || self.workers.is_worker(process)
+    }
+
+    /// The message stands at the end of the link between these processes.
+    pub(crate) fn send(&mut self, from: u32, to: u32, msg: Msg) -> Result<(), OutOfMemory>
+        ensures sent { OnOk result (told_of self.new ≡ linked (told_of self.old) from to msg) }
+        ensures marks { self.new.marks.items ≡ self.old.marks.items }
         ensures events { self.new.events ≡ self.old.events }
         ensures count { self.new.workers.count ≡ self.old.workers.count }
     {
-        let msg = match self.workers.emit(from, 1) {
-            None => return Err(StepFault::NotPossible),
-            Some(msg) => msg,
-        };
-        match self.to_main.push(from, msg) {
-            Ok(()) => Ok(()),
-            Err(_) => Err(StepFault::OutOfMemory),
+        if to == 1 {
+            return self.to_main.push(from, msg);
         }
+        self.workers.send(from, to, msg)
     }
 
-    /// A message of a worker to a worker leaves.
-    fn emit_to_worker(&mut self, from: u32, to: u32) -> Result<(), StepFault>
-        requires from { (from == 1) ≡ false }
-        requires to { (to == 1) ≡ false }
+    /// The oldest message of a worker to that process leaves.
+    fn emit_from(&mut self, from: u32, to: u32) -> Result<(), StepFault>
+        requires { (from == 1) ≡ false }
         ensures tries { Tries (Emit from to) (told_of self.old) (told_of self.new) result }
         ensures events { self.new.events ≡ self.old.events }
         ensures count { self.new.workers.count ≡ self.old.workers.count }
@@ -69,7 +83,7 @@ impl Outside {
             None => return Err(StepFault::NotPossible),
             Some(msg) => msg,
         };
-        match self.workers.send(from, to, msg) {
+        match self.send(from, to, msg) {
             Ok(()) => Ok(()),
             Err(_) => Err(StepFault::OutOfMemory),
         }
@@ -84,11 +98,8 @@ impl Outside {
         if from == 1 {
             return Err(StepFault::NotPossible);
         }
-        if to == 1 {
-            return self.emit_to_main(from);
-        }
-        if self.workers.is_worker(to) {
-            return self.emit_to_worker(from, to);
+        if self.has(to) {
+            return self.emit_from(from, to);
         }
         if self.workers.has_mail(from, to) {
             return Err(StepFault::Stranger);
@@ -108,8 +119,7 @@ impl Outside {
         match self.workers.arrive(from, to, &mut self.marks) {
             Ok(true) => Ok(()),
             Ok(false) => Err(StepFault::NotPossible),
-            Err(StepFault::Spent) => Err(StepFault::Spent),
-            Err(_) => Err(StepFault::OutOfMemory),
+            Err(fault) => Err(broken_by(fault)),
         }
     }
 
@@ -125,13 +135,12 @@ impl Outside {
         match self.workers.go_on(number, &mut self.marks) {
             Ok(true) => Ok(()),
             Ok(false) => Err(StepFault::NotPossible),
-            Err(StepFault::Spent) => Err(StepFault::Spent),
-            Err(_) => Err(StepFault::OutOfMemory),
+            Err(fault) => Err(broken_by(fault)),
         }
     }
 
     /// An event, but that it isn't counted.
-    fn go(&mut self, event: &Event) -> Result<(), StepFault>
+    pub(crate) fn go(&mut self, event: &Event) -> Result<(), StepFault>
         ensures tries { Tries event.now (told_of self.old) (told_of self.new) result }
         ensures events { self.new.events ≡ self.old.events }
         ensures count { self.new.workers.count ≡ self.old.workers.count }

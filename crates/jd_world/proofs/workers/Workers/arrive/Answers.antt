@@ -1,5 +1,5 @@
 use Rattle.std.proofs.Common.{refl}
-use Rattle.jd_world.proofs.Written.{written, if_ok, arrives_at, arrives_not}
+use Rattle.jd_world.proofs.Written.{written, if_ok, on_err, arrives_at, arrives_not, arrives_can}
 use Rattle.jd_world.proofs.workers.Workers.arrive.Goals as goal
 
 pub returns-in-Some-clause-none : goal.returns-in-Some-clause-none
@@ -8,3 +8,6 @@ returns-in-Some-clause-none c = if_ok c.arrive.result c.arrive.ensures.none (λ 
 
 pub returns-in-Some-clause-went : goal.returns-in-Some-clause-went
 returns-in-Some-clause-went c = if_ok c.arrive.result c.arrive.ensures.went (λ went h e. arrives_at _ _ _ c.args.from _ _ _ _ (written c.args.self.now _ c.args.to c.in-Some.worker.now _ refl c.in-Some.ensures.value (c.get_mut.follows.holds _).3) (h e))
+
+pub returns-in-Some-clause-can : goal.returns-in-Some-clause-can
+returns-in-Some-clause-can c = on_err c.arrive.result c.arrive.ensures.can (arrives_can c.args.self.now c.args.to c.args.from c.in-Some.worker.now c.in-Some.ensures.value)

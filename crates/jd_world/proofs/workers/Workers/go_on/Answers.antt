@@ -1,5 +1,5 @@
 use Rattle.std.proofs.Common.{refl}
-use Rattle.jd_world.proofs.Written.{written, if_ok, runs_at, runs_not, same_links}
+use Rattle.jd_world.proofs.Written.{written, if_ok, on_err, runs_at, runs_not, runs_can, same_links}
 use Rattle.jd_world.proofs.workers.Workers.go_on.Goals as goal
 
 pub returns-in-Some-clause-none : goal.returns-in-Some-clause-none
@@ -10,4 +10,7 @@ pub returns-in-Some-clause-went : goal.returns-in-Some-clause-went
 returns-in-Some-clause-went c = if_ok c.go_on.result c.go_on.ensures.went (λ went h e. runs_at _ _ _ _ _ _ _ (written c.args.self.now _ c.args.number c.in-Some.worker.now _ refl c.in-Some.ensures.value (c.get_mut.follows.holds _).3) (h e))
 
 pub returns-in-Some-clause-links : goal.returns-in-Some-clause-links
-returns-in-Some-clause-links c = same_links _ _ _ _ _ (written c.args.self.now _ c.args.number c.in-Some.worker.now _ refl c.in-Some.ensures.value (c.get_mut.follows.holds _).3) c.go_on.ensures.links
+returns-in-Some-clause-links c = same_links _ _ _ _ _ (written c.args.self.now _ c.args.number c.in-Some.worker.now _ refl c.in-Some.ensures.value (c.get_mut.follows.holds _).3) refl
+
+pub returns-in-Some-clause-can : goal.returns-in-Some-clause-can
+returns-in-Some-clause-can c = on_err c.go_on.result c.go_on.ensures.can (runs_can c.args.self.now c.args.number c.in-Some.worker.now c.in-Some.ensures.value)

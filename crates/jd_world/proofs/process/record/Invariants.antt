@@ -1,7 +1,7 @@
 use Rattle.std.proofs.Common.{◌≡◌, ◌+◌, ◌-◌, ◌≤◌, ◌++◌, map, take, length, vec_len}
 use Rattle.std.specs.Vec.{vec_capacity}
 use Rattle.jd_model.specs.World.{marked}
-use Rattle.jd_world.proofs.worker.record.Given as goal
+use Rattle.jd_world.proofs.process.record.Given as goal
 
 abbrev pub invariant-loop-effect : goal.invariant-loop-effect
 invariant-loop-effect l = record {

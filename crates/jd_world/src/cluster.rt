@@ -1,0 +1,178 @@
+//! Steps of the whole cluster.
+ghost use Rattle.std.specs.Prelude.{◌≡◌, ◌≤◌, IfOk, false, not};
+ghost use Rattle.jd_model.specs.declared.event.Event.TheVariants.{Emit, Deliver, Run};
+ghost use Rattle.jd_model.specs.World as spec;
+ghost use Rattle.jd_model.specs.World.{moves};
+ghost use Rattle.jd_world.specs.World as whole;
+ghost use Rattle.jd_world.specs.World.{whole_of, net_of, whole_first, printed, WorldTries, WorldSteps};
+
+use crate::outside::Outside;
+use crate::process;
+use crate::step::broken_by;
+use crate::step_fault::StepFault;
+use crate::world::World;
+use jd_model::{Effect, Event, Mark};
+use jd_node::Node;
+use jd_value::{OutOfMemory, Program, Value};
+use std::alloc::Global;
+
+/// Whether it is an event of a worker, or of a link to one.
+fn is_outside(event: &Event) -> bool
+    ensures { result ≡ spec.is_outside event.now }
+{
+    match event {
+        Event::Emit(process, _) | Event::Deliver(_, process) | Event::Run(process) => *process != 1,
+    }
+}
+
+/// How many events it counts: what process 1 sends and runs isn't counted.
+fn counts(event: &Event) -> u64
+    ensures counts { result ≡ whole.counts event.now }
+    ensures small { result ≤ 1 }
+{
+    match event {
+        Event::Emit(1, _) | Event::Run(1) => 0,
+        Event::Emit(_, _) | Event::Deliver(_, _) | Event::Run(_) => 1,
+    }
+}
+
+impl World {
+    /// The cluster of the program with so many workers, in which nothing has happened.
+    pub fn start(alloc: Global, program: &Program, workers: u32) -> Result<World, OutOfMemory>
+        requires { workers ≤ 16 }
+        ensures { IfOk result (λ w. whole_of w ≡ whole_first program.now workers) }
+    {
+        match Node::with_main(alloc, program, workers) {
+            Ok(hub) => Ok(World {
+                hub,
+                outside: Outside::new(alloc, workers),
+            }),
+            Err(_) => Err(OutOfMemory),
+        }
+    }
+
+    /// The oldest message of process 1 to that process leaves.
+    fn emit(&mut self, to: u32) -> Result<(), StepFault>
+        ensures tries { WorldTries (moves (net_of self.old) (Emit 1 to)) (whole_of self.old) (whole_of self.new) result }
+        ensures events { self.new.outside.events ≡ self.old.outside.events }
+    {
+        if !self.outside.has(to) {
+            return match self.hub.has_mail(to) {
+                true => Err(StepFault::Stranger),
+                false => Err(StepFault::NotPossible),
+            };
+        }
+        let msg = match self.hub.emit(to) {
+            None => return Err(StepFault::NotPossible),
+            Some(msg) => msg,
+        };
+        match self.outside.send(1, to, msg) {
+            Ok(()) => Ok(()),
+            Err(_) => Err(StepFault::OutOfMemory),
+        }
+    }
+
+    /// The first message on the link from that process to process 1 arrives.
+    fn arrive(&mut self, from: u32) -> Result<(), StepFault>
+        ensures tries { WorldTries (moves (net_of self.old) (Deliver from 1)) (whole_of self.old) (whole_of self.new) result }
+        ensures events { self.new.outside.events ≡ self.old.outside.events }
+    {
+        let outside = &mut self.outside;
+        match process::arrive(
+            &mut self.hub,
+            &mut outside.to_main,
+            1,
+            from,
+            &mut outside.marks,
+        ) {
+            Ok(true) => Ok(()),
+            Ok(false) => Err(StepFault::NotPossible),
+            Err(fault) => Err(broken_by(fault)),
+        }
+    }
+
+    /// The oldest task of process 1 that can go on goes on.
+    fn go_on(&mut self) -> Result<(), StepFault>
+        ensures tries { WorldTries (moves (net_of self.old) (Run 1)) (whole_of self.old) (whole_of self.new) result }
+        ensures events { self.new.outside.events ≡ self.old.outside.events }
+    {
+        match process::go_on(&mut self.hub, 1, &mut self.outside.marks) {
+            Ok(true) => Ok(()),
+            Ok(false) => Err(StepFault::NotPossible),
+            Err(fault) => Err(broken_by(fault)),
+        }
+    }
+
+    /// An event of process 1, or of a link to it.
+    fn go_main(&mut self, event: &Event) -> Result<(), StepFault>
+        requires { spec.is_outside event.now ≡ false }
+        ensures tries { WorldTries (moves (net_of self.old) event.now) (whole_of self.old) (whole_of self.new) result }
+        ensures events { self.new.outside.events ≡ self.old.outside.events }
+    {
+        match event {
+            Event::Emit(_, to) => self.emit(*to),
+            Event::Deliver(from, _) => self.arrive(*from),
+            Event::Run(_) => self.go_on(),
+        }
+    }
+
+    /// An event, but that it isn't counted.
+    fn go(&mut self, event: &Event) -> Result<(), StepFault>
+        ensures tries { WorldTries (moves (net_of self.old) event.now) (whole_of self.old) (whole_of self.new) result }
+        ensures events { self.new.outside.events ≡ self.old.outside.events }
+    {
+        if is_outside(event) {
+            self.outside.go(event)
+        } else {
+            self.go_main(event)
+        }
+    }
+
+    /// Main's line is printed, and main gets its answer.
+    fn print(&mut self) -> Result<(), StepFault>
+        ensures { WorldTries (printed (net_of self.old)) (whole_of self.old) (whole_of self.new) result }
+    {
+        if self.hub.main_line().is_none() {
+            return Err(StepFault::NotPossible);
+        }
+        match self.hub.main_answer(Ok(Value::Nothing)) {
+            Ok(()) => {}
+            Err(_) => return Err(StepFault::OutOfMemory),
+        }
+        let mark = Mark {
+            effect: Effect::Printed,
+            by: 1,
+        };
+        match self.outside.marks.push(mark) {
+            Ok(()) => Ok(()),
+            Err(_) => Err(StepFault::OutOfMemory),
+        }
+    }
+}
+
+/// An event of any process. `NotPossible` comes exactly where the definition doesn't allow the event, `Limit` exactly
+/// where the record has 1,000,000 marks or the world made 10,000,000 events, and both leave the world as it was.
+pub fn world_step(world: &mut World, event: &Event) -> Result<(), StepFault>
+    ensures { WorldSteps (moves (net_of world.old) event.now) (whole.counts event.now) (whole_of world.old) (whole_of world.new) result }
+{
+    if world.outside.is_full() {
+        return Err(StepFault::Limit);
+    }
+    match world.go(event) {
+        Ok(()) => {}
+        Err(fault) => return Err(fault),
+    }
+    world.outside.events += counts(event);
+    Ok(())
+}
+
+/// Main's line is printed: its mark is made, and main gets its answer. `NotPossible` comes exactly where main asks no
+/// line, `Limit` as that of `world_step`, and both leave the world as it was.
+pub fn world_print(world: &mut World) -> Result<(), StepFault>
+    ensures { WorldSteps (printed (net_of world.old)) 0 (whole_of world.old) (whole_of world.new) result }
+{
+    if world.outside.is_full() {
+        return Err(StepFault::Limit);
+    }
+    world.print()
+}
