@@ -22,6 +22,8 @@ mod rows;
 mod run;
 mod show;
 mod tasks;
+#[cfg(test)]
+mod tests;
 mod waits;
 
 pub use fault::NodeFault;
