@@ -20,7 +20,7 @@ use Rattle.jd_world.specs.declared.step_fault.StepFault.TheVariants.{NotPossible
 use Rattle.jd_world.specs.declared.workers.Workers.{Workers}
 use Rattle.jd_world.specs.Workers.{nodes_of, links_to, Arrives, Runs}
 use Rattle.jd_world.specs.Outside.{told_with, linked, later, links_of, broken_by, IsStill, CanHappen, Tries}
-use Rattle.jd_world.specs.World.{joined_with, moved_on, Leaves, WorldTries, IsMainStuck, IsStuck}
+use Rattle.jd_world.specs.World.{joined_with, Leaves, WorldTries, IsMainStuck, IsStuck}
 use Rattle.jd_world.proofs.Events.{inside_not}
 use Rattle.jd_world.proofs.Views.{link_main, links_main}
 

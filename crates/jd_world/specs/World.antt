@@ -1,5 +1,5 @@
 -- The whole cluster, process 1 included, and what its steps leave.
-use Rattle.std.specs.Prelude.{◌≡◌, ◌≢◌, ◌⊎◌, ℕ, ◌+◌, ◌==◌, ◌<◌, List, [], ◌∷◌, ◌++◌, length, Option, None, Some, false, Result, Ok, Err, if◌then◌else◌, option_map}
+use Rattle.std.specs.Prelude.{◌≡◌, ◌≢◌, ◌⊎◌, ℕ, ◌+◌, ◌==◌, ◌<◌, [], ◌∷◌, ◌++◌, length, Option, None, Some, false, Result, Ok, Err, if◌then◌else◌, option_map}
 use Rattle.jd_value.specs.declared.tree.Program.{Program}
 use Rattle.jd_value.specs.declared.value.Value.TheVariants.{Nothing}
 use Rattle.jd_model.specs.declared.event.Event.{Event}

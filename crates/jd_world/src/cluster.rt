@@ -1,5 +1,5 @@
 //! Steps of the whole cluster.
-ghost use Rattle.std.specs.Prelude.{◌≡◌, ◌≤◌, IfOk, false, not};
+ghost use Rattle.std.specs.Prelude.{◌≡◌, ◌≤◌, IfOk, false};
 ghost use Rattle.jd_model.specs.declared.event.Event.TheVariants.{Emit, Deliver, Run};
 ghost use Rattle.jd_model.specs.World as spec;
 ghost use Rattle.jd_model.specs.World.{moves};
