@@ -4,6 +4,7 @@ use jd_source::{MemFile, MemSink, MemSource, NoPause};
 use jd_world::ListFabric;
 use std::alloc::{AllocError, Global};
 use std::test::Fail;
+use test_fabrics::{FailingFabric, FullFabric};
 
 struct Run {
     script: &'static [u8],
@@ -190,5 +191,80 @@ fn other_words_are_usage(rt: HostRuntime) -> Result<(), Fail> {
         let line = b"usage: jd sim, run or gen, see the manual\n".as_slice();
         assert_eq!(rt; err.bytes(), line);
     }
+    Ok(())
+}
+
+/// The call over a fabric whose call of that number fails.
+fn over_failing_fabric(
+    alloc: Global,
+    words: &[String],
+    failing: u64,
+    out: &mut MemSink,
+    err: &mut MemSink,
+) -> Result<Status, Fail> {
+    let mut script = source(alloc, b"println(1); println(2)", &[])?;
+    let mut fabric = FailingFabric::new(alloc, failing);
+    Ok(sim(
+        alloc,
+        words,
+        &mut script,
+        out,
+        err,
+        &mut fabric,
+        &mut NoPause,
+    ))
+}
+
+/// Whether these are the first of the lines, whole ones.
+fn are_first(bytes: &[u8], lines: &[u8]) -> bool {
+    lines.starts_with(bytes) && (bytes.is_empty() || bytes.ends_with(b"\n"))
+}
+
+#[test]
+fn a_fabric_that_fails_at_any_call_cuts_the_run_off(rt: HostRuntime) -> Result<(), Fail> {
+    let alloc = rt.alloc();
+    let words = words(alloc, &["sim", "-p", "1", "FILE"])?;
+    let lines = b"1\n2\n".as_slice();
+    let mut before = 0;
+    for failing in 1..100 {
+        let mut out = sink(alloc, &[])?;
+        let mut err = sink(alloc, &[])?;
+        let status = over_failing_fabric(alloc, words.as_slice(), failing, &mut out, &mut err)?;
+        assert!(rt; are_first(out.bytes(), lines), "at {failing}");
+        assert!(rt; before <= out.bytes().len(), "at {failing}");
+        before = out.bytes().len();
+        if status == Status::Done {
+            assert_eq!(rt; out.bytes(), lines);
+            assert_eq!(rt; err.bytes(), b"".as_slice());
+            assert!(rt; failing > 1);
+            return Ok(());
+        }
+        assert_eq!(rt; status, Status::FabricFault, "at {failing}");
+        assert_eq!(rt; err.bytes(), b"FABRIC FAULT\n".as_slice());
+    }
+    assert!(rt; false, "the script hasn't come to its end");
+    Ok(())
+}
+
+#[test]
+fn a_full_fabric_is_a_limit(rt: HostRuntime) -> Result<(), Fail> {
+    let alloc = rt.alloc();
+    let words = words(alloc, &["sim", "-p", "1", "FILE"])?;
+    let mut script = source(alloc, b"println(1)", &[])?;
+    let mut out = sink(alloc, &[])?;
+    let mut err = sink(alloc, &[])?;
+    let mut fabric = FullFabric::new();
+    let status = sim(
+        alloc,
+        words.as_slice(),
+        &mut script,
+        &mut out,
+        &mut err,
+        &mut fabric,
+        &mut NoPause,
+    );
+    assert_eq!(rt; status, Status::Limit);
+    assert_eq!(rt; out.bytes(), b"".as_slice());
+    assert_eq!(rt; err.bytes(), b"LIMIT\n".as_slice());
     Ok(())
 }
