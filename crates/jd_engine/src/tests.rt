@@ -202,7 +202,8 @@ fn over_failing_fabric(
     out: &mut MemSink,
     err: &mut MemSink,
 ) -> Result<Status, Fail> {
-    let mut script = source(alloc, b"println(1); println(2)", &[])?;
+    let call = b"r = remotecall(x -> x * x, 2, 12); println(fetch(r)); println(fetch(r))";
+    let mut script = source(alloc, call, &[])?;
     let mut fabric = FailingFabric::new(alloc, failing);
     Ok(sim(
         alloc,
@@ -224,7 +225,7 @@ fn are_first(bytes: &[u8], lines: &[u8]) -> bool {
 fn a_fabric_that_fails_at_any_call_cuts_the_run_off(rt: HostRuntime) -> Result<(), Fail> {
     let alloc = rt.alloc();
     let words = words(alloc, &["sim", "-p", "1", "FILE"])?;
-    let lines = b"1\n2\n".as_slice();
+    let lines = b"144\n144\n".as_slice();
     let mut before = 0;
     for failing in 1..100 {
         let mut out = sink(alloc, &[])?;
