@@ -10,6 +10,7 @@ use jd_world::{Arrival, Fabric, FabricFault};
 /// It tells a world that has made its last event. Every call answers `Limit`, so it is never begun.
 #[derive(Drop)]
 pub struct FullFabric {
+    start: Option<Start>,
     limits: u64,
 }
 
@@ -19,13 +20,17 @@ impl FullFabric {
         ensures begun { ⟦<FullFabric as Fabric>⟧.begun result ≡ None }
         ensures tells { is_some (⟦<FullFabric as Fabric>⟧.told result) ≡ true }
     {
-        FullFabric { limits: 0 }
+        FullFabric {
+            start: None,
+            limits: 0,
+        }
     }
 
     fn limit(&mut self) -> FabricFault
         ensures fault { result ≡ FabricFault.Limit }
         ensures rose { Rose self.old.limits self.new.limits }
         ensures later { self.old.limits ≤ self.new.limits }
+        ensures start { self.new.start ≡ self.old.start }
     {
         self.limits = self.limits.saturating_add(1);
         FabricFault::Limit
@@ -35,7 +40,7 @@ impl FullFabric {
 impl Fabric for FullFabric {
     ghost told = { λ _. Some full_told };
 
-    ghost begun = { λ _. None };
+    ghost begun = { λ f. f.start };
 
     ghost faults = { λ _. 0 };
 
