@@ -1,5 +1,6 @@
 //! The words that the grammar or the language gives a meaning.
 ghost use Rattle.std.specs.Prelude.{◌≡◌, map};
+ghost use Rattle.std.specs.Str.{bytes_eq};
 ghost use Rattle.jd_lexer.specs.Words.{is_among, kind_among, word_kind};
 
 use jd_grammar::token::{Kind, Name, Word};
@@ -87,11 +88,18 @@ pub static WORDS: [(&str, Kind); 38] = [
     ("@everywhere", Kind::Everywhere),
 ];
 
+/// Whether a name is that word. Most words are too long or too short, and are not compared further.
+fn is_word(word: &str, name: &[u8]) -> bool
+    ensures { result ≡ bytes_eq word.now name.now }
+{
+    word.len() == name.len() && word.as_bytes() == name
+}
+
 fn kind_among(words: &[(&str, Kind)], name: &[u8]) -> Option<Kind>
     ensures { result ≡ kind_among (map (λ w. (w.0.now, w.1)) words.now) name.now }
 {
     for (word, kind) in words {
-        if word.as_bytes() == name {
+        if is_word(word, name) {
             return Some(*kind);
         }
     }
@@ -102,7 +110,7 @@ fn is_among(words: &[&str], name: &[u8]) -> bool
     ensures { result ≡ is_among (map (λ w. w.now) words.now) name.now }
 {
     for word in words {
-        if word.as_bytes() == name {
+        if is_word(word, name) {
             return true;
         }
     }

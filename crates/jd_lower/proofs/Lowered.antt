@@ -11,13 +11,13 @@ use Rattle.jd_tree.specs.declared.tree.Expr.TheVariants as variant
 use Rattle.jd_tree.specs.declared.tree.Item.{Item, out-Item}
 use Rattle.jd_tree.specs.declared.tree.Listing.{Listing, out-Listing}
 use Rattle.jd_tree.specs.declared.tree.Operation.{Operation}
-use Rattle.jd_tree.specs.declared.script.Line.{Line as Written, out-Line, roll-out-Line}
-use Rattle.jd_tree.specs.declared.script.Block as code-block
-use Rattle.jd_tree.specs.declared.script.Block.{out-Block, roll-out-Block}
+use Rattle.jd_script.specs.declared.tree.Line.{Line as Written, out-Line, roll-out-Line}
+use Rattle.jd_script.specs.declared.tree.Block as code-block
+use Rattle.jd_script.specs.declared.tree.Block.{out-Block, roll-out-Block}
 use Rattle.jd_tree.specs.Plain.{plain, plain_item, plain_listing, plain_operation, items_of, operated}
-use Rattle.jd_tree.specs.PlainScript.{lines_from, place_of, plain_stmt, plain_line, plain_block}
+use Rattle.jd_script.specs.PlainScript.{lines_from, place_of, plain_stmt, plain_line, plain_block}
 use Rattle.jd_tree.proofs.Levels.{plain_binary}
-use Rattle.jd_tree.proofs.Statements.{one_line, one_block}
+use Rattle.jd_script.proofs.Statements.{one_line, one_block}
 use Rattle.jd_lower.specs.declared.draft.Draft.{Draft}
 use Rattle.jd_lower.specs.declared.fault.LowerFault.{LowerFault}
 use Rattle.jd_lower.specs.declared.fault.LowerFault.TheVariants.{NotBuilt, OutOfMemory}

@@ -1,6 +1,6 @@
 //! Scripts, as programs.
 ghost use Rattle.std.specs.Prelude.{◌≡◌, Some, map, IfOk};
-ghost use Rattle.jd_tree.specs.PlainScript.{plain_block, plain_line};
+ghost use Rattle.jd_script.specs.PlainScript.{plain_block, plain_line};
 ghost use Rattle.jd_syntax.specs.Answers.{plain_script};
 ghost use Rattle.jd_lower.specs.Steps.{Gives, Lowers};
 ghost use Rattle.jd_lower.specs.Lowering.{lines_on, program_of, block_of, lowered};
@@ -10,8 +10,8 @@ use crate::fault::LowerFault;
 use crate::lines::lower_place;
 use crate::names::shared_names;
 use jd_lexer::Text;
+use jd_script::tree as syntax;
 use jd_syntax::Script;
-use jd_tree::script as syntax;
 use jd_value::{Block, Body, OutOfMemory, Program, Shared, Stmt, Txt};
 use sqlite_items::Items;
 use std::alloc::Global;

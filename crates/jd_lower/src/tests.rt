@@ -2,8 +2,8 @@
 use crate::{LowerFault, lower};
 use jd_grammar::token::{Kind, Name, Token, Word};
 use jd_lexer::Text;
+use jd_script::tree::{Block, Lead, Line, Stmt};
 use jd_syntax::Script;
-use jd_tree::script::{Block, Lead, Line, Stmt};
 use jd_tree::tree::{Expr, Item, Listing, Operation};
 use jd_value::{Operation as Effect, Stmt as Lowered, Txt};
 use sqlite_items::{Boxed, Items};

@@ -1,10 +1,3 @@
-pub mod Braces
-pub mod Drops
-pub mod First
-pub mod Measured
-pub mod Nested
-pub mod Rooms
 pub mod Rounds
 pub mod Routes
-pub mod Shapes
 pub mod Verdicts

@@ -3,10 +3,10 @@ use Rattle.std.proofs.Common.{ℕ, ◌≡◌, ◌+◌, max, min, Bool, true, fal
 use Rattle.jd_grammar.specs.Script.{Lines, no_lines, line, Place}
 use Rattle.jd_grammar.specs.declared.token.Token.{Token}
 use Rattle.jd_grammar.specs.Reader.{Outer}
-use Rattle.jd_tree.specs.declared.script.Line.{Line}
-use Rattle.jd_tree.specs.PlainScript.{lines_from, plain_line}
+use Rattle.jd_script.specs.declared.tree.Line.{Line}
+use Rattle.jd_script.specs.PlainScript.{lines_from, plain_line}
 use Rattle.jd_grammar.specs.ScriptDepth.{depth_lines, has_token, outer_needs, round_needs}
-use Rattle.jd_reader.specs.Depths.{round_at}
+use Rattle.jd_reader.specs.Rounds.{round_at}
 
 has_always : (ls : Lines) → has_token ls true ≡ true
 has_always no_lines = refl

@@ -14,11 +14,11 @@ use Rattle.jd_reader.specs.declared.refusal.Refusal.TheVariants.{Misplaced, TooD
 use Rattle.jd_reader.specs.declared.refusal.Fault.{Fault}
 use Rattle.jd_reader.specs.declared.refusal.Fault.TheVariants.{Refused, OutOfMemory}
 use Rattle.jd_reader.specs.Answers.{IsRefusal, Reads, Refuses, RefusesFor, RefusesAt, refusal_at, fault_from}
-use Rattle.jd_reader.specs.declared.stop.Stop.{Stop}
-use Rattle.jd_reader.specs.declared.stop.Stop.TheVariants as stop
+use Rattle.jd_precedence.specs.declared.stop.Stop.{Stop}
+use Rattle.jd_precedence.specs.declared.stop.Stop.TheVariants as stop
 use Rattle.jd_reader.specs.Reading.{Leads, Ends}
-use Rattle.jd_tree.specs.declared.script.Block as code-block
-use Rattle.jd_tree.specs.PlainScript.{plain_block}
+use Rattle.jd_script.specs.declared.tree.Block as code-block
+use Rattle.jd_script.specs.PlainScript.{plain_block}
 
 -- ---- a refusal at a token
 

@@ -5,10 +5,10 @@ use Rattle.jd_grammar.specs.declared.token.Kind.{Kind}
 use Rattle.jd_grammar.specs.Kinds.{is_wide}
 use Rattle.jd_grammar.specs.Script.{Block}
 use Rattle.jd_grammar.specs.Promise.{IsTooLargeAt, IsTooDeepAt, IsMisplacedAt}
-use Rattle.jd_tree.specs.declared.script.Block as code-block
-use Rattle.jd_tree.specs.PlainScript.{plain_block}
-use Rattle.jd_reader.specs.declared.stop.Stop.{Stop}
-use Rattle.jd_reader.specs.declared.stop.Stop.TheVariants as stop
+use Rattle.jd_script.specs.declared.tree.Block as code-block
+use Rattle.jd_script.specs.PlainScript.{plain_block}
+use Rattle.jd_precedence.specs.declared.stop.Stop.{Stop}
+use Rattle.jd_precedence.specs.declared.stop.Stop.TheVariants as stop
 use Rattle.jd_reader.specs.declared.refusal.Refusal.{Refusal}
 use Rattle.jd_reader.specs.declared.refusal.Refusal.TheVariants.{Misplaced, TooDeep, TooLarge}
 use Rattle.jd_reader.specs.declared.refusal.Fault.{Fault}

@@ -1,6 +1,4 @@
-pub mod Parts
-pub mod Depths
 pub mod Routes
-pub mod State
+pub mod Rounds
 pub mod Reading
 pub mod Answers

@@ -3,9 +3,9 @@ use Rattle.std.specs.Prelude.{◌≡◌, List, [], ◌∷◌, Option, Some, None
 use Rattle.jd_grammar.specs.Reader as machine
 use Rattle.jd_grammar.specs.Reader.{Config}
 use Rattle.jd_grammar.specs.Script.{Block, Scope}
-use Rattle.jd_tree.specs.declared.script.Block as code-block
+use Rattle.jd_script.specs.declared.tree.Block as code-block
 use Rattle.jd_tree.specs.Code.{plain_measured}
-use Rattle.jd_tree.specs.PlainScript.{plain_block, plain_header, plain_lead, plain_opening, plain_packages, plain_parameters, plain_signature, plain_stmt, plain_target}
+use Rattle.jd_script.specs.PlainScript.{plain_block, plain_header, plain_lead, plain_opening, plain_packages, plain_parameters, plain_signature, plain_stmt, plain_target}
 use Rattle.jd_reader.specs.declared.context.Outer as code-outer
 use Rattle.jd_reader.specs.declared.context.Context as code-context
 use Rattle.jd_reader.specs.declared.context.Bottom as code-bottom
@@ -20,10 +20,10 @@ use Rattle.jd_reader.specs.declared.context.Config as code-config
 use Rattle.jd_reader.specs.declared.context.Whole as code-whole
 use Rattle.jd_reader.specs.declared.context.Whole.TheVariants as whole
 use Rattle.jd_reader.specs.declared.scopes.Scope as code-scope
-use Rattle.jd_reader.specs.declared.stop.Stop.{Stop}
-use Rattle.jd_reader.specs.declared.stop.Stop.TheVariants.{Refused, OutOfMemory}
-use Rattle.jd_reader.specs.State.{state}
-use Rattle.jd_tree.specs.CodeScript.{plain_arms, plain_lines, plain_place}
+use Rattle.jd_precedence.specs.declared.stop.Stop.{Stop}
+use Rattle.jd_precedence.specs.declared.stop.Stop.TheVariants.{Refused, OutOfMemory}
+use Rattle.jd_precedence.specs.State.{state}
+use Rattle.jd_script.specs.CodeScript.{plain_arms, plain_lines, plain_place}
 
 abbrev pub plain_outer : code-outer.Outer → machine.Outer
 plain_outer o = record { lines = plain_lines o.lines; before = plain_arms o.before; opening = plain_opening o.opening.opening }

@@ -4,22 +4,23 @@ ghost use Rattle.jd_grammar.specs.Frames.{want};
 ghost use Rattle.jd_grammar.specs.Script as grammar;
 ghost use Rattle.jd_grammar.specs.Reader as machine;
 ghost use Rattle.jd_tree.specs.Code.{plain_measured};
-ghost use Rattle.jd_tree.specs.PlainScript.{plain_block, plain_opening};
-ghost use Rattle.jd_tree.specs.CodeScript.{plain_arms, plain_lines, plain_place};
+ghost use Rattle.jd_script.specs.PlainScript.{plain_block, plain_opening};
+ghost use Rattle.jd_script.specs.CodeScript.{plain_arms, plain_lines, plain_place};
 ghost use Rattle.jd_reader.specs.Routes.{block_step};
 ghost use Rattle.jd_reader.specs.Reading.{plain_bottom, plain_context, plain_mode, plain_outers, plain_whole, Leads};
 
 use crate::context::{Awaited, Bottom, Config, Context, Mode, Outer, Whole};
-use crate::frames::Now;
-use crate::stack::Stack;
-use crate::stop::{Stop, refuse};
 use jd_grammar::token::{Kind, Token};
-use jd_tree::blocks::{
+use jd_precedence::frames::Now;
+use jd_precedence::stack::Stack;
+use jd_precedence::stop::{Stop, refuse};
+use jd_script::blocks::{
     alone_of, block_of, blocks_of, else_of, ended_of, headed_of, no_lines, with_arm, with_line,
 };
+use jd_script::nested::{Arms, NestedBlock, NestedOpening, NestedStmt};
+use jd_script::tree::{Header, Lead, Opening};
 use jd_tree::measured::Measured;
-use jd_tree::nested::{Arms, NestedBlock, NestedOpening, NestedStmt};
-use jd_tree::script::{Header, Lead, Opening};
+use sqlite_items::Boxed;
 use std::alloc::Global;
 
 // ---- where statements begin and blocks open
@@ -81,7 +82,7 @@ pub fn with_expression(bottom: Bottom, operand: Measured) -> Whole
 {
     match bottom {
         Bottom::Lead(lead) => Whole::Place(Some(ended_of(lead, operand))),
-        Bottom::Header(before, header) => Whole::Header(before, header, operand),
+        Bottom::Header(before, header) => Whole::Header(before, header.into_inner(), operand),
     }
 }
 
@@ -147,6 +148,7 @@ fn may_end(opening: &Opening) -> bool
 
 /// Reads `end`.
 fn end_block(
+    alloc: Global,
     token: Token,
     outer: Stack<Outer>,
     statement: Outer,
@@ -165,7 +167,7 @@ fn end_block(
     } = statement;
     Ok(Config {
         context: Context { outer, lines },
-        mode: Mode::Complete(blocks_of(before, opening, inner, token)),
+        mode: Mode::Complete(blocks_of(alloc, before, opening, inner, token)?),
     })
 }
 
@@ -189,9 +191,10 @@ fn elseif_block(
         opening,
     } = statement;
     let arms = with_arm(before, opening, inner)?;
+    let header = Boxed::new(alloc, Header::Elseif(token))?;
     Ok(Config {
         context: Context { outer, lines },
-        mode: expression_in(alloc, Bottom::Header(arms, Header::Elseif(token))),
+        mode: expression_in(alloc, Bottom::Header(arms, header)),
     })
 }
 
@@ -220,6 +223,7 @@ fn else_block(
 
 /// Reads `catch`.
 fn catch_block(
+    alloc: Global,
     token: Token,
     outer: Stack<Outer>,
     statement: Outer,
@@ -237,9 +241,10 @@ fn catch_block(
         opening,
     } = statement;
     let arms = with_arm(before, opening, inner)?;
+    let words = Boxed::new(alloc, Awaited::CatchWords(arms, token))?;
     Ok(Config {
         context: Context { outer, lines },
-        mode: Mode::Words(Awaited::CatchWords(arms, token)),
+        mode: Mode::Words(words),
     })
 }
 
@@ -258,10 +263,10 @@ fn end_word(
         Some(statement) => {
             let inner = block_of(alloc, lines, place)?;
             match token.kind {
-                Kind::End => end_block(token, outer, statement, inner),
+                Kind::End => end_block(alloc, token, outer, statement, inner),
                 Kind::Elseif => elseif_block(alloc, token, outer, statement, inner),
                 Kind::Else => else_block(alloc, token, outer, statement, inner),
-                Kind::Catch => catch_block(token, outer, statement, inner),
+                Kind::Catch => catch_block(alloc, token, outer, statement, inner),
                 _ => refuse((outer, statement, inner)),
             }
         }

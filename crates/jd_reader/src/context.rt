@@ -1,12 +1,13 @@
 //! What is open while a script is read.
 
-use crate::frames::{Frame, Now};
-use crate::stack::Stack;
 use jd_grammar::token::Token;
+use jd_precedence::frames::{Frame, Now};
+use jd_precedence::stack::Stack;
+use jd_script::nested::{Arms, Lines, NestedOpening, NestedStmt};
+use jd_script::parameters::NamedParameters;
+use jd_script::tree::{Header, Lead, Packages, Signature, Target};
 use jd_tree::measured::Measured;
-use jd_tree::nested::{Arms, Lines, NestedOpening, NestedStmt};
-use jd_tree::parameters::NamedParameters;
-use jd_tree::script::{Header, Lead, Packages, Signature, Target};
+use sqlite_items::Boxed;
 
 /// A statement whose block is open, with the lines before the statement.
 #[derive(Drop)]
@@ -29,7 +30,7 @@ pub enum Bottom {
     /// The end of a statement.
     Lead(Lead),
     /// The header of a block, behind the blocks before it.
-    Header(Arms, Header),
+    Header(Arms, Boxed<Header>),
 }
 
 /// Whose name and parameters are read.
@@ -85,7 +86,7 @@ pub enum Awaited {
 #[derive(Drop)]
 pub enum Mode {
     Expression(Bottom, Stack<Frame>, Now),
-    Words(Awaited),
+    Words(Boxed<Awaited>),
     /// A statement that is whole.
     Complete(NestedStmt),
 }

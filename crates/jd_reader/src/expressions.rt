@@ -4,20 +4,20 @@ ghost use Rattle.jd_grammar.specs.Frames.{want, have};
 ghost use Rattle.jd_grammar.specs.Machine as expression;
 ghost use Rattle.jd_grammar.specs.Reader as machine;
 ghost use Rattle.jd_tree.specs.Code.{plain_measured};
-ghost use Rattle.jd_reader.specs.State.{plain_frames, plain_now, state};
+ghost use Rattle.jd_precedence.specs.State.{plain_frames, plain_now, state};
 ghost use Rattle.jd_reader.specs.Routes.{is_ending as ends, is_beginning as begins, is_assigning as assigns, are_none_open, goes};
 ghost use Rattle.jd_reader.specs.Reading.{plain_bottom, plain_context, Leads};
 
 use crate::blocks::{ending_step, with_expression};
-use crate::close::close_all;
 use crate::context::{Bottom, Config, Context, Mode};
-use crate::frames::{Frame, Now};
-use crate::operators::at_end;
-use crate::stack::Stack;
 use crate::statements::{assigning_step, first_step, is_assigning, is_beginning, is_ending};
-use crate::step::step;
-use crate::stop::{Stop, stopped};
 use jd_grammar::token::{Kind, Token};
+use jd_precedence::close::close_all;
+use jd_precedence::frames::{Frame, Now};
+use jd_precedence::operators::at_end;
+use jd_precedence::stack::Stack;
+use jd_precedence::step::step;
+use jd_precedence::stop::{Stop, stopped};
 use jd_tree::measured::Measured;
 use std::alloc::Global;
 

@@ -2,20 +2,20 @@
 ghost use Rattle.std.specs.Prelude.{◌≡◌, ◌+◌, max, if◌then◌else◌};
 ghost use Rattle.jd_grammar.specs.ScriptDepth as grammar;
 ghost use Rattle.jd_tree.specs.Measures.{height_up_to};
-ghost use Rattle.jd_tree.specs.CodeScript.{plain_lines};
-ghost use Rattle.jd_tree.specs.PlainScript.{plain_lead, plain_target};
-ghost use Rattle.jd_reader.specs.State.{plain_frames, plain_now, state};
-ghost use Rattle.jd_reader.specs.Depths.{round_at};
+ghost use Rattle.jd_script.specs.CodeScript.{plain_lines};
+ghost use Rattle.jd_script.specs.PlainScript.{plain_lead, plain_target};
+ghost use Rattle.jd_precedence.specs.State.{plain_frames, plain_now, state};
+ghost use Rattle.jd_reader.specs.Rounds.{round_at};
 ghost use Rattle.jd_reader.specs.Reading.{plain_awaited, plain_config, plain_mode, plain_outer, plain_outers};
 
 use crate::context::{Awaited, Bottom, Config, Mode, Outer};
-use crate::depth::needs_of;
 use crate::expressions::none_open;
-use crate::frames::{Frame, Now};
-use crate::stack::Stack;
-use jd_tree::blocks::{header_weight_of, lead_weight_of, weight_of};
-use jd_tree::nested::Lines;
-use jd_tree::script::{Lead, Target};
+use jd_precedence::depth::needs_of;
+use jd_precedence::frames::{Frame, Now};
+use jd_precedence::stack::Stack;
+use jd_script::blocks::{header_weight_of, lead_weight_of, weight_of};
+use jd_script::nested::Lines;
+use jd_script::tree::{Lead, Target};
 
 fn target_weight(target: &Option<Target>) -> u8
     ensures { result ≡ grammar.target_weight (plain_target target.now) }
@@ -91,9 +91,9 @@ fn mode_needs(mode: &Mode) -> u8
         Mode::Expression(Bottom::Lead(lead), frames, now) => lead_needs(lead, frames, now),
         Mode::Expression(Bottom::Header(before, header), frames, now) => {
             let deepest = before.nesting.max(needs_of(frames, now));
-            header_weight_of(header).saturating_add(deepest)
+            header_weight_of(header.get()).saturating_add(deepest)
         }
-        Mode::Words(awaited) => awaited_needs(awaited),
+        Mode::Words(awaited) => awaited_needs(awaited.get()),
         Mode::Complete(statement) => statement.nesting,
     }
 }

@@ -3,25 +3,25 @@ ghost use Rattle.std.specs.Prelude.{ℕ, ◌≡◌, IfOk, IfErr};
 ghost use Rattle.jd_grammar.specs.Script as grammar;
 ghost use Rattle.jd_grammar.specs.Reader as machine;
 ghost use Rattle.jd_grammar.specs.Promise.{IsRefusedAt, SpellsWithin};
-ghost use Rattle.jd_tree.specs.PlainScript.{plain_block};
+ghost use Rattle.jd_script.specs.PlainScript.{plain_block};
 ghost use Rattle.jd_reader.specs.declared.refusal.Refusal.{Refusal};
-ghost use Rattle.jd_reader.specs.State.{plain_frames, plain_now};
+ghost use Rattle.jd_precedence.specs.State.{plain_frames, plain_now};
 ghost use Rattle.jd_reader.specs.Reading.{plain_bottom, plain_config, plain_mode, plain_whole, Ends, Leads};
 ghost use Rattle.jd_reader.specs.Answers.{IsRefusal, Reads, Refuses, RefusesAt, RefusesFor};
 
 use crate::blocks::{expression_in, nothing, with_expression, without_expression};
-use crate::close::close_all;
 use crate::context::{Bottom, Config, Context, Mode, Whole};
 use crate::expressions::{expression_step, none_open};
-use crate::frames::{Frame, Now};
 use crate::limits::script_needs;
 use crate::refusal::{Fault, Refusal, fault_of, refusal_of};
-use crate::stack::Stack;
-use crate::stop::{Stop, refuse};
 use crate::words::{complete_step, words_step};
 use jd_grammar::token::Token;
-use jd_tree::blocks::{block_of, no_lines};
-use jd_tree::script::{Block, Lead};
+use jd_precedence::close::close_all;
+use jd_precedence::frames::{Frame, Now};
+use jd_precedence::stack::Stack;
+use jd_precedence::stop::{Stop, refuse};
+use jd_script::blocks::{block_of, no_lines};
+use jd_script::tree::{Block, Lead};
 use std::alloc::{AllocError, Global};
 
 /// How many constructs may stand round a token.
@@ -36,7 +36,7 @@ fn step(alloc: Global, config: Config, token: Token) -> Result<Config, Stop>
         Mode::Expression(bottom, frames, now) => expression_step(
             alloc, context, bottom, frames, now, token,
         ),
-        Mode::Words(awaited) => words_step(alloc, context, awaited, token),
+        Mode::Words(awaited) => words_step(alloc, context, awaited.into_inner(), token),
         Mode::Complete(statement) => complete_step(alloc, context, statement, token),
     }
 }

@@ -2,8 +2,8 @@
 ghost use Rattle.std.specs.Prelude.{ℕ, ◌≡◌};
 ghost use Rattle.jd_reader.specs.Answers.{fault_from, refusal_at};
 
-use crate::stop::Stop;
 use jd_grammar::token::Token;
+use jd_precedence::stop::Stop;
 use jd_tree::kinds::is_wide;
 
 /// Why a token is refused.

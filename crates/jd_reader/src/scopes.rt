@@ -2,12 +2,12 @@
 ghost use Rattle.std.specs.Prelude.{◌≡◌};
 ghost use Rattle.jd_grammar.specs.Script as grammar;
 ghost use Rattle.jd_grammar.specs.Reader as machine;
-ghost use Rattle.jd_tree.specs.PlainScript.{plain_header, plain_opening};
+ghost use Rattle.jd_script.specs.PlainScript.{plain_header, plain_opening};
 ghost use Rattle.jd_reader.specs.Reading.{plain_outers, plain_scope};
 
 use crate::context::Outer;
-use crate::stack::Stack;
-use jd_tree::script::{Header, Opening};
+use jd_precedence::stack::Stack;
+use jd_script::tree::{Header, Opening};
 
 /// What may stand in a block.
 #[derive(Clone, Copy)]

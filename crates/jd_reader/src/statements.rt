@@ -1,24 +1,26 @@
 //! Reads a token at the beginning of a statement, and behind the expression at its end.
-ghost use Rattle.std.specs.Prelude.{◌≡◌, [], IsTrue, true, None};
+ghost use Rattle.std.specs.Prelude.{◌≡◌, [], IsTrue, true, None, Some};
 ghost use Rattle.jd_grammar.specs.Frames.{wanted, got, want};
 ghost use Rattle.jd_grammar.specs.Reader as machine;
 ghost use Rattle.jd_grammar.specs.Script as grammar;
 ghost use Rattle.jd_tree.specs.Code.{plain_measured};
-ghost use Rattle.jd_reader.specs.Parts.{leaf_token_in};
+ghost use Rattle.jd_script.specs.PlainScript.{plain_header};
+ghost use Rattle.jd_precedence.specs.Parts.{leaf_token_in};
 ghost use Rattle.jd_reader.specs.Routes.{is_ending as ends, is_beginning as begins, is_assigning as assigns, is_top_word};
 ghost use Rattle.jd_reader.specs.Reading.{plain_awaited, plain_bottom, plain_config, plain_context, Leads};
 
 use crate::blocks::{ending_step, expression_in, open_block, without_expression};
 use crate::context::{Awaited, Bottom, Config, Context, Distributing, Mode, Whole};
-use crate::operators::leaf_token;
 use crate::scopes::scope_of;
-use crate::stop::{Stop, refuse};
 use jd_grammar::token::{Kind, Token};
-use jd_tree::blocks::{alone_of, defined_of, no_arms, try_of};
+use jd_precedence::operators::leaf_token;
+use jd_precedence::stop::{Stop, refuse};
+use jd_script::blocks::{alone_of, defined_of, no_arms, try_of};
+use jd_script::tree::{Header, Lead, Target};
 use jd_tree::kinds::is_name;
 use jd_tree::measured::Measured;
 use jd_tree::names::is_signature;
-use jd_tree::script::{Header, Lead, Target};
+use sqlite_items::Boxed;
 use std::alloc::Global;
 
 /// Whether it ends a statement or a block.
@@ -62,13 +64,14 @@ pub fn is_assigning(kind: Kind) -> bool
 }
 
 /// What goes on with such words.
-pub fn go(context: Context, words: Awaited) -> Config
-    ensures { plain_config result ≡ machine.go (plain_context context) (machine.at_words (plain_awaited words)) }
+pub fn go(alloc: Global, context: Context, words: Awaited) -> Result<Config, Stop>
+    ensures { Leads (Some (machine.go (plain_context context) (machine.at_words (plain_awaited words)))) result }
 {
-    Config {
+    let words = Boxed::new(alloc, words)?;
+    Ok(Config {
         context,
         mode: Mode::Words(words),
-    }
+    })
 }
 
 /// What goes on with an expression.
@@ -81,10 +84,18 @@ pub fn go_in(alloc: Global, context: Context, bottom: Bottom) -> Config
     }
 }
 
+/// What goes on with the expression of a header, which no block stands before.
+pub fn header_step(alloc: Global, context: Context, header: Header) -> Result<Config, Stop>
+    ensures { Leads (Some (machine.go (plain_context context) (machine.at_expression (machine.in_header grammar.fresh (plain_header header)) (want [])))) result }
+{
+    let header = Boxed::new(alloc, header)?;
+    Ok(go_in(alloc, context, Bottom::Header(no_arms(alloc), header)))
+}
+
 // ---- the beginning of a statement
 
 /// Reads `function`, `@everywhere` or `using`, which stand at the top of a script alone.
-fn begin_top(context: Context, token: Token) -> Result<Config, Stop>
+fn begin_top(alloc: Global, context: Context, token: Token) -> Result<Config, Stop>
     requires { is_top_word token.kind ≡ true }
     ensures { Leads (machine.begin_step token.kind token (plain_context context) (machine.a_place grammar.empty)) result }
 {
@@ -92,9 +103,9 @@ fn begin_top(context: Context, token: Token) -> Result<Config, Stop>
         return refuse(context);
     }
     match token.kind {
-        Kind::Function => Ok(go(context, Awaited::FunctionName(None, token))),
-        Kind::Everywhere => Ok(go(context, Awaited::Everywhere(token))),
-        _ => Ok(go(context, Awaited::PackageFirst(token))),
+        Kind::Function => go(alloc, context, Awaited::FunctionName(None, token)),
+        Kind::Everywhere => go(alloc, context, Awaited::Everywhere(token)),
+        _ => go(alloc, context, Awaited::PackageFirst(token)),
     }
 }
 
@@ -128,26 +139,19 @@ fn begin_step(alloc: Global, context: Context, token: Token) -> Result<Config, S
     ensures { Leads (machine.begin_step token.kind token (plain_context context) (machine.a_place grammar.empty)) result }
 {
     match token.kind {
-        Kind::While => Ok(go_in(
-            alloc,
-            context,
-            Bottom::Header(no_arms(alloc), Header::While(token)),
-        )),
-        Kind::If => Ok(go_in(
-            alloc,
-            context,
-            Bottom::Header(no_arms(alloc), Header::If(token)),
-        )),
-        Kind::For => Ok(go(context, Awaited::ForName(token))),
+        Kind::While => header_step(alloc, context, Header::While(token)),
+        Kind::If => header_step(alloc, context, Header::If(token)),
+        Kind::For => go(alloc, context, Awaited::ForName(token)),
         Kind::Try => open_block(alloc, context, no_arms(alloc), try_of(token)),
-        Kind::DistributedFor => Ok(go(
+        Kind::DistributedFor => go(
+            alloc,
             context,
             Awaited::DistributedOpen(Distributing {
                 target: None,
                 word: token,
             }),
-        )),
-        Kind::Function | Kind::Everywhere | Kind::Using => begin_top(context, token),
+        ),
+        Kind::Function | Kind::Everywhere | Kind::Using => begin_top(alloc, context, token),
         Kind::Return => begin_return(alloc, context, token),
         Kind::Break | Kind::Continue => begin_jump(context, token),
         _ => ending_step(alloc, context, token, Whole::Place(None)),
@@ -185,13 +189,14 @@ fn value_step(
     match token.kind {
         Kind::DistributedFor => {
             let target = Some(Target { name, assign });
-            Ok(go(
+            go(
+                alloc,
                 context,
                 Awaited::DistributedOpen(Distributing {
                     target,
                     word: token,
                 }),
-            ))
+            )
         }
         _ => ending_step(alloc, context, token, Whole::Nothing),
     }

@@ -1,37 +1,37 @@
 //! Reads what only some tokens may follow: the heads of loops, signatures, packages and `catch`.
 ghost use Rattle.std.specs.Prelude.{◌≡◌, Some};
 ghost use Rattle.jd_grammar.specs.Reader as machine;
-ghost use Rattle.jd_tree.specs.PlainScript.{plain_packages, plain_parameters, plain_signature, plain_stmt, plain_target};
-ghost use Rattle.jd_tree.specs.CodeScript.{plain_arms};
+ghost use Rattle.jd_script.specs.PlainScript.{plain_packages, plain_parameters, plain_signature, plain_stmt, plain_target};
+ghost use Rattle.jd_script.specs.CodeScript.{plain_arms};
 ghost use Rattle.jd_reader.specs.Reading.{plain_awaited, plain_context, plain_owner, Leads};
 
 use crate::blocks::{ending_step, open_block};
 use crate::context::{Awaited, Bottom, Config, Context, Distributing, Mode, Owner, Signing, Whole};
-use crate::statements::{go, go_in};
-use crate::stop::{Stop, refuse};
+use crate::statements::{go, go_in, header_step};
 use jd_grammar::token::{Kind, Token};
-use jd_tree::blocks::{
+use jd_precedence::stop::{Stop, refuse};
+use jd_script::blocks::{
     catch_name_of, catch_of, defined_everywhere_of, function_of, no_arms, packages_everywhere_of,
     packages_of,
 };
-use jd_tree::kinds::{is_in, is_name, is_package, is_reducer, is_separator};
-use jd_tree::nested::{Arms, NestedStmt};
-use jd_tree::parameters::{
+use jd_script::nested::{Arms, NestedStmt};
+use jd_script::parameters::{
     NamedParameters, first_package, first_parameter, is_fresh, no_parameters, signature_of,
     with_package, with_parameter,
 };
-use jd_tree::script::{Distributed, Header, Packages, Signature, Stmt};
+use jd_script::tree::{Distributed, Header, Packages, Signature, Stmt};
+use jd_tree::kinds::{is_in, is_name, is_package, is_reducer, is_separator};
 use sqlite_items::Boxed;
 use std::alloc::Global;
 
 /// Goes on with such words where the token may stand there.
-fn go_if(context: Context, stands: bool, words: Awaited) -> Result<Config, Stop>
+fn go_if(alloc: Global, context: Context, stands: bool, words: Awaited) -> Result<Config, Stop>
     ensures { Leads (machine.only_if stands (machine.go (plain_context context) (machine.at_words (plain_awaited words)))) result }
 {
     if !stands {
         return refuse((context, words));
     }
-    Ok(go(context, words))
+    go(alloc, context, words)
 }
 
 // ---- loops
@@ -50,7 +50,7 @@ fn for_in_step(
         return refuse(context);
     }
     let header = Header::For(loops, name, token);
-    Ok(go_in(alloc, context, Bottom::Header(no_arms(alloc), header)))
+    header_step(alloc, context, header)
 }
 
 /// The signs of a loop with `@distributed` before its name.
@@ -91,7 +91,7 @@ fn distributed_in_step(
         },
     )?;
     let header = Header::Distributed(header);
-    Ok(go_in(alloc, context, Bottom::Header(no_arms(alloc), header)))
+    header_step(alloc, context, header)
 }
 
 // ---- signatures
@@ -110,7 +110,7 @@ fn close_signature(
             let opening = function_of(alloc, every, word, signature)?;
             open_block(alloc, context, no_arms(alloc), opening)
         }
-        Owner::Everywhere(every) => Ok(go(context, Awaited::SignatureEnd(every, signature))),
+        Owner::Everywhere(every) => go(alloc, context, Awaited::SignatureEnd(every, signature)),
     }
 }
 
@@ -127,7 +127,7 @@ fn first_step(
     match token.kind {
         Kind::Name(_) => {
             let parameters = first_parameter(alloc, token)?;
-            Ok(go(context, Awaited::SignatureNext(signing, parameters)))
+            go(alloc, context, Awaited::SignatureNext(signing, parameters))
         }
         Kind::CloseParen => {
             let parameters = no_parameters(alloc);
@@ -150,7 +150,11 @@ fn next_step(
         Leads (next token.kind token (plain_context context)) result }
 {
     match token.kind {
-        Kind::Comma => Ok(go(context, Awaited::SignatureName(signing, parameters, token))),
+        Kind::Comma => go(
+            alloc,
+            context,
+            Awaited::SignatureName(signing, parameters, token),
+        ),
         Kind::CloseParen => {
             let signature = signature_of(signing.name, signing.opens, parameters, token);
             close_signature(alloc, context, signing.owner, signature)
@@ -161,6 +165,7 @@ fn next_step(
 
 /// Reads a parameter behind a comma.
 fn parameter_step(
+    alloc: Global,
     context: Context,
     signing: Signing,
     parameters: NamedParameters,
@@ -174,7 +179,7 @@ fn parameter_step(
         return refuse((context, parameters));
     }
     let parameters = with_parameter(parameters, comma, token)?;
-    Ok(go(context, Awaited::SignatureNext(signing, parameters)))
+    go(alloc, context, Awaited::SignatureNext(signing, parameters))
 }
 
 /// Reads `=` behind a signature.
@@ -197,16 +202,22 @@ fn signature_end_step(
 // ---- `@everywhere` and packages
 
 /// Reads a token behind `@everywhere`.
-fn everywhere_step(context: Context, every: Token, token: Token) -> Result<Config, Stop>
+fn everywhere_step(
+    alloc: Global,
+    context: Context,
+    every: Token,
+    token: Token,
+) -> Result<Config, Stop>
     ensures { Leads (machine.everywhere_step every token.kind token (plain_context context)) result }
 {
     match token.kind {
-        Kind::Using => Ok(go(context, Awaited::EverywherePackage(every, token))),
-        Kind::Function => Ok(go(context, Awaited::FunctionName(Some(every), token))),
-        Kind::Name(_) => Ok(go(
+        Kind::Using => go(alloc, context, Awaited::EverywherePackage(every, token)),
+        Kind::Function => go(alloc, context, Awaited::FunctionName(Some(every), token)),
+        Kind::Name(_) => go(
+            alloc,
             context,
             Awaited::SignatureOpen(Owner::Everywhere(every), token),
-        )),
+        ),
         _ => refuse(context),
     }
 }
@@ -250,7 +261,11 @@ pub fn complete_step(
         Kind::Comma => {
             let NestedStmt { stmt, nesting: _ } = statement;
             match stmt {
-                Stmt::Packages(packages) => Ok(go(context, Awaited::PackageNext(packages, token))),
+                Stmt::Packages(packages) => go(
+                    alloc,
+                    context,
+                    Awaited::PackageNext(packages, token),
+                ),
                 other => refuse((context, other)),
             }
         }
@@ -271,7 +286,7 @@ fn catch_step(
     ensures { Leads (machine.catch_step (plain_arms before) word token.kind token (plain_context context)) result }
 {
     match token.kind {
-        Kind::Name(_) => Ok(go(context, Awaited::CatchNamed(before, word, token))),
+        Kind::Name(_) => go(alloc, context, Awaited::CatchNamed(before, word, token)),
         Kind::Semicolon | Kind::LineEnd => open_block(
             alloc,
             context,
@@ -316,11 +331,17 @@ pub fn words_step(
 {
     let kind = token.kind;
     match awaited {
-        Awaited::ForName(loops) => go_if(context, is_name(kind), Awaited::ForIn(loops, token)),
+        Awaited::ForName(loops) => go_if(
+            alloc,
+            context,
+            is_name(kind),
+            Awaited::ForIn(loops, token),
+        ),
         Awaited::ForIn(loops, name) => for_in_step(alloc, context, loops, name, token),
         Awaited::DistributedOpen(distributing) => {
             let opens = matches!(kind, Kind::OpenParen);
             go_if(
+                alloc,
                 context,
                 opens,
                 Awaited::DistributedReducer(distributing, token),
@@ -328,19 +349,19 @@ pub fn words_step(
         }
         Awaited::DistributedReducer(distributing, opens) => {
             let words = Awaited::DistributedClose(distributing, opens, token);
-            go_if(context, is_reducer(kind), words)
+            go_if(alloc, context, is_reducer(kind), words)
         }
         Awaited::DistributedClose(distributing, opens, reducer) => {
             let words = Awaited::DistributedFor(distributing, opens, reducer, token);
-            go_if(context, matches!(kind, Kind::CloseParen), words)
+            go_if(alloc, context, matches!(kind, Kind::CloseParen), words)
         }
         Awaited::DistributedFor(distributing, opens, reducer, closes) => {
             let words = Awaited::DistributedName(distributing, opens, reducer, closes, token);
-            go_if(context, matches!(kind, Kind::For), words)
+            go_if(alloc, context, matches!(kind, Kind::For), words)
         }
         Awaited::DistributedName(distributing, opens, reducer, closes, loops) => {
             let words = Awaited::DistributedIn(distributing, opens, reducer, closes, loops, token);
-            go_if(context, is_name(kind), words)
+            go_if(alloc, context, is_name(kind), words)
         }
         Awaited::DistributedIn(distributing, opens, reducer, closes, loops, name) => {
             let reduction = Reduction {
@@ -353,7 +374,7 @@ pub fn words_step(
         }
         Awaited::FunctionName(every, word) => {
             let words = Awaited::SignatureOpen(Owner::Function(every, word), token);
-            go_if(context, is_name(kind), words)
+            go_if(alloc, context, is_name(kind), words)
         }
         Awaited::SignatureOpen(owner, name) => {
             let signing = Signing {
@@ -362,19 +383,19 @@ pub fn words_step(
                 opens: token,
             };
             let opens = matches!(kind, Kind::OpenParen);
-            go_if(context, opens, Awaited::SignatureFirst(signing))
+            go_if(alloc, context, opens, Awaited::SignatureFirst(signing))
         }
         Awaited::SignatureFirst(signing) => first_step(alloc, context, signing, token),
         Awaited::SignatureNext(signing, parameters) => next_step(
             alloc, context, signing, parameters, token,
         ),
         Awaited::SignatureName(signing, parameters, comma) => parameter_step(
-            context, signing, parameters, comma, token,
+            alloc, context, signing, parameters, comma, token,
         ),
         Awaited::SignatureEnd(every, signature) => signature_end_step(
             alloc, context, every, signature, token,
         ),
-        Awaited::Everywhere(every) => everywhere_step(context, every, token),
+        Awaited::Everywhere(every) => everywhere_step(alloc, context, every, token),
         Awaited::EverywherePackage(every, word) => {
             let statement = packages_everywhere_of(every, word, token);
             complete_if(context, is_package(kind), statement)

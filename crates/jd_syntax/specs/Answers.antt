@@ -4,8 +4,8 @@ use Rattle.jd_grammar.specs.declared.token.Token.{Token}
 use Rattle.jd_grammar.specs.Promise.{SpellsWithin}
 use Rattle.jd_reader.specs.declared.refusal.Refusal.{Refusal}
 use Rattle.jd_reader.specs.declared.refusal.Refusal.TheVariants as refusal
-use Rattle.jd_tree.specs.declared.script.Block as code-block
-use Rattle.jd_tree.specs.PlainScript.{plain_block}
+use Rattle.jd_script.specs.declared.tree.Block as code-block
+use Rattle.jd_script.specs.PlainScript.{plain_block}
 use Rattle.jd_syntax.specs.declared.script.Script as code-script
 use Rattle.jd_syntax.specs.declared.fault.ParseFault.{ParseFault}
 use Rattle.jd_syntax.specs.declared.fault.ParseFault.TheVariants as fault

@@ -2,7 +2,7 @@
 //!
 //! `parse` answers the one script that the bytes spell. Where they spell none, it tells the line of the first place up
 //! to which they are no beginning of a script, and why. Both are exact. The tokens are cut by `jd_lexer`, and
-//! `jd_reader` reads them into the trees of `jd_tree` by the grammar of `jd_grammar`.
+//! `jd_reader` reads them into the trees of `jd_tree` and `jd_script` by the grammar of `jd_grammar`.
 #![tactic(auto)]
 
 mod fault;

@@ -1,6 +1,6 @@
 //! Reads the bytes of a script.
 ghost use Rattle.std.specs.Prelude.{◌≡◌, ◌≤◌, ℕ, List, length, IfOk, IfErr};
-ghost use Rattle.jd_tree.specs.PlainScript.{plain_block};
+ghost use Rattle.jd_script.specs.PlainScript.{plain_block};
 ghost use Rattle.jd_lexer.specs.Names.{texts_of};
 ghost use Rattle.jd_lexer.specs.Lexical.{lexed};
 ghost use Rattle.jd_lexer.specs.Lexing.{lexed_of};
@@ -16,7 +16,7 @@ use crate::script::Script;
 use jd_grammar::token::Token;
 use jd_lexer::{Lexer, Text, lex};
 use jd_reader::{Fault, Refusal};
-use jd_tree::script::Block;
+use jd_script::tree::Block;
 use sqlite_items::Items;
 use std::alloc::{AllocError, Global};
 

@@ -1,7 +1,7 @@
 //! A script as it is written.
 
 use jd_lexer::Text;
-use jd_tree::script::Block;
+use jd_script::tree::Block;
 use sqlite_items::Items;
 
 /// A script: its tree, which keeps every token, and what the tokens name by a number alone.

@@ -3,7 +3,5 @@ pub mod Levels
 pub mod Trees
 pub mod Lists
 pub mod Widths
-pub mod Statements
 pub mod Naming
 pub mod Peeling
-pub mod Definitions

@@ -170,7 +170,12 @@ pub fn ending_of(alloc: Global, head: Head, operand: Measured) -> Result<Measure
         Head::Unary(token) => unary_of(alloc, token, operand),
         Head::Binary(left, token) => binary_of(alloc, left, token, operand),
         Head::Choice(condition, question, chosen, colon) => choice_of(
-            alloc, condition, question, chosen, colon, operand,
+            alloc,
+            condition.into_inner(),
+            question,
+            chosen.into_inner(),
+            colon,
+            operand,
         ),
         Head::Lambda(names, token) => lambda_of(alloc, names, token, operand),
         Head::Spawn(token, place) => spawn_of(alloc, token, place, operand),

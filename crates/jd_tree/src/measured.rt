@@ -8,7 +8,7 @@ ghost use Rattle.jd_tree.specs.Plain.{plain, plain_item, plain_cell, plain_gener
 use crate::profile::Profile;
 use crate::tree::{Cell, Expr, Generator, Item};
 use jd_grammar::token::Token;
-use sqlite_items::Items;
+use sqlite_items::{Boxed, Items};
 
 /// An expression and its profile.
 #[derive(Drop)]
@@ -63,7 +63,7 @@ pub enum Head {
     Unary(Token),
     Binary(Measured, Token),
     /// `condition ? chosen :`.
-    Choice(Measured, Token, Measured, Token),
+    Choice(Boxed<Measured>, Token, Boxed<Measured>, Token),
     /// A name or names in parentheses, and `->`.
     Lambda(Measured, Token),
     /// `@spawnat` or `@fetchfrom`, and an atom.

@@ -1,20 +1,14 @@
 // Trees made from their parts, each public function once.
-use crate::blocks;
 use crate::brackets::{bracket_of, no_arguments, with_item};
 use crate::build::{
     binary_of, choice_of, ending_of, keyword_of, lambda_of, leaf_of, sign_of, spawn_of, unary_of,
 };
 use crate::measured::{Bracket, Head, Measured};
 use crate::names::{are_parameters, insert, is_signature};
-use crate::parameters::{
-    first_package, first_parameter, is_fresh, no_parameters, signature_of, with_package,
-    with_parameter,
-};
 use crate::parts::{
     ChannelSigns, comprehension_of, generator_count, no_generators, remote_of, with_generator,
 };
 use crate::rows::{are_begun, is_full, matrix_of, may_go_on, split, with_atom};
-use crate::script::{Header, Lead};
 use crate::tree::Channel;
 use jd_grammar::token::{Kind, Name, Token};
 use std::alloc::{AllocError, Global};
@@ -182,52 +176,29 @@ fn comprehensions_and_channels_nest(rt: HostRuntime) -> Result<(), Fail> {
 }
 
 #[test]
-fn names_differ(rt: HostRuntime) -> Result<(), Fail> {
+fn parameters_differ(rt: HostRuntime) -> Result<(), Fail> {
     let alloc = rt.alloc();
-    assert!(&rt; are_parameters(alloc, &names(alloc, Bracket::Grouped, 0, 1)?)?);
-    assert!(&rt; !are_parameters(alloc, &names(alloc, Bracket::Grouped, 1, 1)?)?);
-    let called = names(alloc, Bracket::Called(leaf_of(name(0))), 0, 1)?;
-    assert!(&rt; is_signature(alloc, &called)?);
-    let again = names(alloc, Bracket::Called(leaf_of(name(0))), 2, 2)?;
-    assert!(&rt; !is_signature(alloc, &again)?);
-    let mut keys = BTreeSet::new(alloc);
-    assert!(&rt; insert(&mut keys, 1)?);
-    assert!(&rt; !insert(&mut keys, 1)?);
-    let parameters = first_parameter(alloc, name(0))?;
-    let parameters = with_parameter(parameters, token(Kind::Comma), name(1))?;
-    assert!(&rt; is_fresh(&parameters, name(2).kind));
-    assert!(&rt; !is_fresh(&parameters, name(1).kind));
-    let packages = first_package(alloc, token(Kind::Using), name(0));
-    let packages = with_package(packages, token(Kind::Comma), name(1))?;
-    assert_eq!(&rt; packages.others.len(), 1);
+    let two = names(alloc, Bracket::Grouped, 0, 1)?;
+    assert!(&rt; are_parameters(alloc, &two)?);
+    let one = names(alloc, Bracket::Grouped, 1, 1)?;
+    assert!(&rt; !are_parameters(alloc, &one)?);
     Ok(())
 }
 
 #[test]
-fn blocks_nest_where_they_have_a_token(rt: HostRuntime) -> Result<(), Fail> {
+fn names_of_a_signature_differ(rt: HostRuntime) -> Result<(), Fail> {
     let alloc = rt.alloc();
-    let end = token(Kind::LineEnd);
-    let empty = blocks::block_of(alloc, blocks::no_lines(alloc), None)?;
-    assert_eq!(&rt; empty.nesting, 0);
-    let arms = blocks::with_arm(
-        blocks::no_arms(alloc),
-        blocks::headed_of(alloc, Header::If(token(Kind::If)), number(1), end)?,
-        empty,
-    )?;
-    let signature = signature_of(name(0), end, no_parameters(alloc), end);
-    let lead = blocks::defined_everywhere_of(alloc, end, signature, end)?;
-    let place = Some(blocks::ended_of(lead, juxtaposed(alloc)?));
-    let lines = blocks::with_line(alloc, blocks::no_lines(alloc), place, end)?;
-    let block = blocks::block_of(alloc, lines, None)?;
-    assert_eq!(&rt; block.nesting, 3);
-    let opening = blocks::else_of(token(Kind::Else));
-    let whole = blocks::blocks_of(arms, opening, block, token(Kind::End));
-    assert_eq!(&rt; whole.nesting, 4);
-    let lead = blocks::defined_of(alloc, juxtaposed(alloc)?, token(Kind::Assign))?;
-    assert_eq!(&rt; blocks::lead_weight_of(&lead), 1);
-    assert_eq!(&rt; blocks::lead_weight_of(&Lead::Bare), 0);
-    let signature = signature_of(name(0), end, no_parameters(alloc), end);
-    let opening = blocks::function_of(alloc, None, token(Kind::Function), signature)?;
-    assert_eq!(&rt; blocks::weight_of(&opening.opening), 1);
+    let called = names(alloc, Bracket::Called(leaf_of(name(0))), 0, 1)?;
+    assert!(&rt; is_signature(alloc, &called)?);
+    let again = names(alloc, Bracket::Called(leaf_of(name(0))), 2, 2)?;
+    assert!(&rt; !is_signature(alloc, &again)?);
+    Ok(())
+}
+
+#[test]
+fn a_key_is_new_once(rt: HostRuntime) -> Result<(), Fail> {
+    let mut keys = BTreeSet::new(rt.alloc());
+    assert!(&rt; insert(&mut keys, 1)?);
+    assert!(&rt; !insert(&mut keys, 1)?);
     Ok(())
 }

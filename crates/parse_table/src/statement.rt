@@ -1,7 +1,7 @@
 //! Writes statements and blocks: a `;` stands behind each that a separator ends, and `{ }` round each block.
 
 use crate::expression::{put, show_expr, show_token};
-use jd_tree::script::{
+use jd_script::tree::{
     Arm, Block, Distributed, Header, Lead, Line, Opening, Packages, Parameters, Signature, Stmt,
 };
 use std::alloc::AllocError;
@@ -147,6 +147,7 @@ fn show_stmt(out: &mut Vec<u8>, source: &[u8], stmt: &Stmt) -> Result<(), AllocE
             show_token(out, source, *name)
         }
         Stmt::Blocks(blocks) => {
+            let blocks = blocks.get();
             show_arms(out, source, blocks.before.as_slice())?;
             show_arm(out, source, &blocks.last)?;
             put(out, "end")

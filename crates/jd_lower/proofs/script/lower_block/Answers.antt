@@ -1,5 +1,5 @@
 use Rattle.std.proofs.Common.{Some, Err, ◌≡◌, map, subst}
-use Rattle.jd_tree.specs.PlainScript.{plain_line}
+use Rattle.jd_script.specs.PlainScript.{plain_line}
 use Rattle.jd_lower.specs.Steps.{Gives}
 use Rattle.jd_lower.specs.Lowering.{lines_on}
 use Rattle.jd_lower.proofs.Lowered.{block_lowers, block_fails}

@@ -1,7 +1,7 @@
 use Rattle.std.proofs.Common.{Option, sym, ap, subst, ◌∙◌}
 use Rattle.jd_grammar.specs.Reader.{Config, Whole, ending_step}
 use Rattle.jd_tree.specs.Code.{plain_measured}
-use Rattle.jd_reader.specs.State.{plain_frames}
+use Rattle.jd_precedence.specs.State.{plain_frames}
 use Rattle.jd_reader.specs.Reading.{plain_bottom, plain_context, Leads}
 use Rattle.jd_reader.proofs.Routes.{outer_closed, inner_closed}
 use Rattle.jd_reader.proofs.expressions.end_step.Goals as goal

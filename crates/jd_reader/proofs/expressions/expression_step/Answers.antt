@@ -1,7 +1,7 @@
 use Rattle.std.proofs.Common.{Option, subst}
 use Rattle.jd_grammar.specs.Machine.{words_step}
 use Rattle.jd_grammar.specs.Reader.{Config}
-use Rattle.jd_reader.specs.State.{plain_frames, plain_words}
+use Rattle.jd_precedence.specs.State.{plain_frames, plain_words}
 use Rattle.jd_reader.specs.Reading.{plain_bottom, plain_context, Leads}
 use Rattle.jd_reader.proofs.Routes.{pending_goes}
 use Rattle.jd_reader.proofs.expressions.expression_step.Goals as goal

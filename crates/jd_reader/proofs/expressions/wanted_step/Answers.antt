@@ -1,6 +1,6 @@
 use Rattle.std.proofs.Common.{Option, sym, subst, ◌∙◌}
 use Rattle.jd_grammar.specs.Reader.{Config}
-use Rattle.jd_reader.specs.State.{plain_frames}
+use Rattle.jd_precedence.specs.State.{plain_frames}
 use Rattle.jd_reader.specs.Reading.{plain_bottom, plain_context, Leads}
 use Rattle.jd_reader.proofs.Routes.{outer_begins, wanted_goes}
 use Rattle.jd_reader.proofs.expressions.wanted_step.Goals as goal

@@ -1,7 +1,7 @@
 use Rattle.std.proofs.Common.{◌≡◌, ◌+◌, List, drop, subst, ◌∙◌}
 use Rattle.jd_tree.specs.Measures.{height_up_to}
 use Rattle.jd_reader.specs.declared.context.Outer.{Outer}
-use Rattle.jd_reader.specs.Depths.{round_at}
+use Rattle.jd_reader.specs.Rounds.{round_at}
 use Rattle.jd_reader.specs.Reading.{plain_outer, plain_outers}
 use Rattle.jd_reader.proofs.Rounds.{round_step}
 use Rattle.jd_reader.proofs.limits.round_needs.Goals as goal

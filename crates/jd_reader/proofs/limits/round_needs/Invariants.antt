@@ -1,6 +1,6 @@
 use Rattle.std.proofs.Common.{◌≡◌, drop, ◌-◌, length}
 use Rattle.jd_tree.specs.Measures.{height_up_to}
-use Rattle.jd_reader.specs.Depths.{round_at}
+use Rattle.jd_reader.specs.Rounds.{round_at}
 use Rattle.jd_reader.specs.Reading.{plain_outers}
 use Rattle.jd_reader.proofs.limits.round_needs.Given as goal
 

@@ -1,7 +1,7 @@
 use Rattle.std.proofs.Common.{ap, ◌∙◌}
 use Rattle.jd_grammar.specs.ScriptDepth.{mode_needs, has_token}
 use Rattle.jd_grammar.specs.ScriptDepth as grammar
-use Rattle.jd_tree.specs.CodeScript.{plain_lines}
+use Rattle.jd_script.specs.CodeScript.{plain_lines}
 use Rattle.jd_reader.specs.Reading.{plain_mode, plain_outers}
 use Rattle.jd_reader.proofs.Rounds.{script_is}
 use Rattle.jd_reader.proofs.limits.script_needs.Goals as goal

@@ -1,6 +1,6 @@
 use Rattle.std.proofs.Common.{Some}
 use Rattle.jd_grammar.proofs.Refuse.{run_next, read_sound}
-use Rattle.jd_tree.specs.PlainScript.{plain_block}
+use Rattle.jd_script.specs.PlainScript.{plain_block}
 use Rattle.jd_reader.specs.Reading.{plain_config}
 use Rattle.jd_reader.proofs.Verdicts.{stopped_there, ended_there, deep_at, within_limit}
 use Rattle.jd_reader.proofs.reading.read_all.Goals as goal

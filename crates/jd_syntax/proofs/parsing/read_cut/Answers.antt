@@ -1,7 +1,7 @@
 use Rattle.std.proofs.Common.{rules, ◌≡◌, ◌∙◌, ap, subst}
 use Rattle.jd_grammar.specs.Promise.{SpellsWithin}
 use Rattle.jd_lexer.specs.Lexing.{lexed_of}
-use Rattle.jd_tree.specs.PlainScript.{plain_block}
+use Rattle.jd_script.specs.PlainScript.{plain_block}
 use Rattle.jd_syntax.specs.Refusal.{IsRefusedToken}
 use Rattle.jd_syntax.specs.Answers.{refused_at}
 use Rattle.jd_syntax.proofs.Readings.{refused, stopped_behind}

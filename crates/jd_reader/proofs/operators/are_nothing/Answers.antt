@@ -1,5 +1,0 @@
-use Rattle.jd_reader.proofs.Shapes.{nothing_items}
-use Rattle.jd_reader.proofs.operators.are_nothing.Goals as goal
-
-pub returns-in-None : goal.returns-in-None
-returns-in-None c = rw c.in-None.is (nothing_items c.args.items.now c.is_empty.result c.is_empty.ensures)
