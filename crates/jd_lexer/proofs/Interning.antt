@@ -1,6 +1,6 @@
 -- A set of names as the list of their texts.
-use Rattle.std.proofs.Common.{ℕ, ◌≤◌, length, ◌+◌, true, false, ◌≡◌, List, [], ◌∷◌, ◌++◌, if◌then◌else◌, refl, ap, ◌∙◌}
-use Rattle.std.specs.Prelude.{nat_eq, ◌||◌, not}
+use Rattle.std.proofs.Common.{ℕ, suc, ◌≤◌, length, ◌+◌, true, false, ◌≡◌, List, [], ◌∷◌, ◌++◌, Some, None, if◌then◌else◌, refl, sym, ap, ◌∙◌}
+use Rattle.std.specs.Prelude.{nat_eq, nat_lt, position, ◌||◌, not}
 use Rattle.std.specs.List.{list_any, position_or_len}
 use Rattle.std.specs.Str.{bytes_eq}
 use Rattle.std.specs.Cmp.Lexicographic.{pointwise}
@@ -17,6 +17,15 @@ any_text (x ∷ ks) k = ap (λ b. bytes_eq k.now x.now || b) (any_text ks k)
 pub number_text : (ks : List (Bor (List ℕ))) (k : Bor (List ℕ)) → position_or_len (λ x. pointwise nat_eq k.now x.now) ks ≡ number_in (texts_of ks) k.now
 number_text [] k = refl
 number_text (x ∷ ks) k = ap (λ n. if not (bytes_eq k.now x.now) then 1 + n else 0) (number_text ks k)
+
+pub texts_len : (ks : List (Bor (List ℕ))) → length (texts_of ks) ≡ length ks
+texts_len [] = refl
+texts_len (x ∷ ks) = ap suc (texts_len ks)
+
+pub position_text : (ks : List (Bor (List ℕ))) (k : Bor (List ℕ)) → position (λ x. pointwise nat_eq k.now x.now) ks ≡ position (bytes_eq k.now) (texts_of ks)
+position_text ks k =
+    ap (λ n. if nat_lt n (length ks) then Some n else None) (number_text ks k)
+    ∙ ap (λ m. if nat_lt (number_in (texts_of ks) k.now) m then Some (number_in (texts_of ks) k.now) else None) (sym (texts_len ks))
 
 texts_end : (ks : List (Bor (List ℕ))) (k : Bor (List ℕ)) → texts_of (ks ++ k ∷ []) ≡ texts_of ks ++ k.now ∷ []
 texts_end [] k = refl

@@ -3,3 +3,4 @@ pub mod Numbers
 pub mod Scan
 pub mod Pieces
 pub mod Cuts
+pub mod Known

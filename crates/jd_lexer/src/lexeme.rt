@@ -29,7 +29,7 @@ fn is_digit(byte: u8) -> bool
 }
 
 /// Whether a name may begin with it.
-fn is_letter(byte: u8) -> bool
+pub fn is_letter(byte: u8) -> bool
     ensures { result ≡ is_letter byte }
 {
     byte.is_ascii_alphabetic() || byte == b'_'
@@ -67,7 +67,7 @@ fn word_end(bytes: &[u8], start: usize) -> usize
 }
 
 /// Where a name ends whose first byte stands before a place.
-fn name_end(bytes: &[u8], start: usize) -> usize
+pub fn name_end(bytes: &[u8], start: usize) -> usize
     requires { start ≤ length bytes.now }
     ensures end { result ≡ start + name_len (drop start bytes.now) }
     ensures within { result ≤ length bytes.now }

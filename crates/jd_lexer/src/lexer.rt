@@ -1,12 +1,12 @@
 //! Cuts a script into tokens.
-ghost use Rattle.std.specs.Prelude.{◌≡◌, ◌+◌, ◌≤◌, ◌<◌, ◌^◌, ◌||◌, drop, length, slice_index, IfOk, IfSome, OnOk, nat_lt};
+ghost use Rattle.std.specs.Prelude.{◌≡◌, ◌+◌, ◌≤◌, ◌<◌, ◌^◌, ◌||◌, ◌∷◌, take, drop, length, slice_index, IfOk, IfSome, IfNone, OnOk, nat_lt};
 ghost use Rattle.std.specs.HashSet.{hash_set_len};
-ghost use Rattle.jd_lexer.specs.Lexical.{is_line_end, joins, opened, gap_at, with_gap, with_token, with_lexeme, start, lexed, IsWithin};
+ghost use Rattle.jd_lexer.specs.Lexical.{is_line_end, joins, opened, lexeme_at, gap_at, with_gap, with_token, with_lexeme, start, lexed, IsWithin};
 ghost use Rattle.jd_lexer.specs.Lexing.{lexed_of};
-ghost use Rattle.jd_lexer.specs.Names.{texts_of};
+ghost use Rattle.jd_lexer.specs.Names.{texts_of, AreNoWords};
 
-use crate::lexeme::{Lexeme, Text, lexeme_at, line_end, slice, starts_with};
-use crate::names::number_of;
+use crate::lexeme::{Lexeme, Text, is_letter, lexeme_at, line_end, name_end, slice, starts_with};
+use crate::names::{known_number, number_of};
 use indexmap::IndexSet;
 use jd_grammar::token::{Kind, Name, Token};
 use sqlite_items::Items;
@@ -157,6 +157,33 @@ impl<'a> Lexer<'a> {
             }
         }
     }
+
+    /// Adds the name at a place where it was read before, and says how many bytes it has behind its first. None where no
+    /// such name stands. A name that was read before is no word, so that it need not be compared with the words.
+    fn add_known(&mut self, bytes: &'a [u8], at: usize) -> Result<Option<usize>, AllocError>
+        requires place { at < length bytes.now }
+        requires short { length bytes.now < 2 ^ 32 }
+        requires counts { IsWithin (lexed_of self.old) at }
+        requires names { AreNoWords (lexed_of self.old).names }
+        ensures lexeme { IfOk result (λ found. IfSome found (λ more.
+            Some (Lexeme.Name, more) ≡ lexeme_at (slice_index bytes.now at) (drop (at + 1) bytes.now))) }
+        ensures within { IfOk result (λ found. IfSome found (λ more. at + 1 + more ≤ length bytes.now)) }
+        ensures added { IfOk result (λ found. IfSome found (λ more.
+            lexed_of self.new ≡ with_lexeme (lexed_of self.old) Lexeme.Name at (take (more + 1) (slice_index bytes.now at ∷ drop (at + 1) bytes.now)))) }
+        ensures unchanged { IfOk result (λ found. IfNone found (lexed_of self.new ≡ lexed_of self.old)) }
+    {
+        if !is_letter(bytes[at]) {
+            return Ok(None);
+        }
+        let end = name_end(bytes, at + 1);
+        match known_number(&self.names, slice(bytes, at, end)) {
+            Some(number) => {
+                self.add_token(Kind::Name(Name::Other(number as u32)), at, end)?;
+                Ok(Some(end - at - 1))
+            }
+            None => Ok(None),
+        }
+    }
 }
 
 /// What is read of a script, and the first place where no token begins, if there is one. It fails only for want of
@@ -168,19 +195,20 @@ pub fn lex<'a>(alloc: Global, bytes: &'a [u8]) -> Result<(Lexer<'a>, Option<usiz
     let mut lexer = Lexer::new(alloc);
     let mut at = 0;
     while at < bytes.len() {
-        match gap_at(bytes, at, lexer.is_end_blank()) {
-            Some(more) => {
-                lexer.add_gap();
-                at = at + 1 + more;
-            }
-            None => match lexeme_at(alloc, bytes, at)? {
+        if let Some(more) = gap_at(bytes, at, lexer.is_end_blank()) {
+            lexer.add_gap();
+            at = at + 1 + more;
+        } else if let Some(more) = lexer.add_known(bytes, at)? {
+            at = at + 1 + more;
+        } else {
+            match lexeme_at(alloc, bytes, at)? {
                 Some((lexeme, more)) => {
                     let end = at + 1 + more;
                     lexer.add(lexeme, at, slice(bytes, at, end))?;
                     at = end;
                 }
                 None => return Ok((lexer, Some(at))),
-            },
+            }
         }
     }
     Ok((lexer, None))

@@ -1,5 +1,6 @@
 //! Numbers the names of a script.
-ghost use Rattle.std.specs.Prelude.{◌≡◌, ◌≤◌, length, IfOk, OnOk};
+ghost use Rattle.std.specs.Prelude.{◌≡◌, ◌≤◌, ◌<◌, length, position, IfOk, IfSome, OnOk};
+ghost use Rattle.std.specs.Str.{bytes_eq};
 ghost use Rattle.jd_lexer.specs.Words.{number_in, with_name};
 ghost use Rattle.jd_lexer.specs.Names.{texts_of};
 
@@ -14,4 +15,12 @@ pub fn number_of<'a>(names: &mut IndexSet<&'a [u8]>, name: &'a [u8]) -> Result<u
 {
     let (number, _) = names.insert_full(name)?;
     Ok(number)
+}
+
+/// The number of a name that was read before. None of a name that is new.
+pub fn known_number(names: &IndexSet<&[u8]>, name: &[u8]) -> Option<usize>
+    ensures number { result ≡ position (bytes_eq name.now) (texts_of names.now.keys) }
+    ensures few { IfSome result (λ n. n < length (texts_of names.now.keys)) }
+{
+    names.get_index_of(name)
 }

@@ -1,3 +1,4 @@
 pub mod Rounds
 pub mod Routes
+pub mod Stretches
 pub mod Verdicts

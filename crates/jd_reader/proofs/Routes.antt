@@ -1,14 +1,14 @@
 -- What an expression doesn't take, and what a statement doesn't.
-use Rattle.std.proofs.Common.{◌≡◌, true, false, ◌&&◌, List, [], ◌∷◌, Option, Some, None, refl, sym, ap, ◌∙◌}
+use Rattle.std.proofs.Common.{◌≡◌, Bool, true, false, not, ◌&&◌, List, [], ◌∷◌, Option, Some, None, refl, sym, ap, ◌∙◌}
 use Rattle.jd_grammar.specs.declared.token.Token.{Token}
 use Rattle.jd_grammar.specs.declared.token.Kind.{Kind}
 use Rattle.jd_grammar.specs.declared.token.Kind.TheVariants.{Function, If, Elseif, Else, While, For, Try, Catch, Return, Break, Continue, End, Using, DistributedFor, Everywhere, Assign, PlusAssign, MinusAssign, StarAssign, Semicolon, LineEnd}
 use Rattle.jd_grammar.specs.Grammar.{Syntax, leaf}
-use Rattle.jd_grammar.specs.Frames.{Frame, Words, wanted, got, pending, State, want, have, await}
-use Rattle.jd_grammar.specs.Machine.{close, at_end, at_keyword, want_step, have_step}
+use Rattle.jd_grammar.specs.Frames.{Frame, Now, Words, wanted, got, pending, State, want, have, await}
+use Rattle.jd_grammar.specs.Machine.{close, at_end, at_keyword, want_step, have_step, words_step, step_at}
 use Rattle.jd_grammar.specs.Script.{bare, assigned, updated, defined, defined_everywhere, returned}
-use Rattle.jd_grammar.specs.Reader.{Context, Bottom, in_lead, in_header, Whole, nothing_whole, with_expression, without_expression, whole_at, ending_step, begin_step, value_step, target_step, statement_step, either}
-use Rattle.jd_reader.specs.Routes.{is_ending, is_beginning, is_assigning, are_none_open, is_bare, goes}
+use Rattle.jd_grammar.specs.Reader.{Context, Bottom, in_lead, in_header, Whole, nothing_whole, with_expression, without_expression, whole_at, ending_step, begin_step, value_step, target_step, statement_step, either, at_expression, mode_step}
+use Rattle.jd_reader.specs.Routes.{is_ending, is_beginning, is_assigning, is_inner, are_none_open, is_bare, goes}
 
 -- no operand begins so
 pub want_none : (k : Kind) (t : Token) → is_beginning k ≡ true → want_step k t [] ≡ None
@@ -284,6 +284,24 @@ got_goes k t ctx b fs e g h = either_goes (have_step k t fs e) k t ctx b (have f
 -- behind what only some tokens may follow the expression goes on
 pub pending_goes : (x : Option State) (k : Kind) (t : Token) (ctx : Context) (b : Bottom) (fs : List Frame) (w : Words) → goes x ctx b ≡ either x k t ctx b (await fs w)
 pending_goes x k t ctx b fs w = either_goes x k t ctx b (await fs w) (pending_none k t ctx b fs w)
+
+-- where only the expression takes a token, it goes on or nothing does
+not_true : (a : Bool) → not a ≡ true → a ≡ false
+not_true false h = refl
+not_true true h = cc
+
+both_false : (a b : Bool) → (not a && not b) ≡ true → (a ≡ false) × (b ≡ false)
+both_false false false h = (refl, refl)
+both_false false true h = cc
+both_false true b h = cc
+
+pub inner_goes : (t : Token) (ctx : Context) (b : Bottom) (fs : List Frame) (n : Now) → is_inner t.kind fs n ≡ true →
+    goes (step_at t fs n) ctx b ≡ mode_step (at_expression b (record { frames = fs; now = n })) t ctx
+inner_goes t ctx b fs wanted h = wanted_goes t.kind t ctx b fs (not_true (are_none_open fs && is_beginning t.kind) h)
+inner_goes t ctx b fs (got e) h =
+    let both = both_false (is_ending t.kind) (are_none_open fs && is_assigning t.kind) h in
+    got_goes t.kind t ctx b fs e both.0 both.1
+inner_goes t ctx b fs (pending w) h = pending_goes (words_step w t fs) t.kind t ctx b fs w
 
 -- all is closed, or a construct is left open
 pub outer_closed : (k : Kind) (t : Token) (ctx : Context) (b : Bottom) (fs : List Frame) (e : Syntax) (gs : List Frame) (d : Syntax) → is_ending k ≡ true → are_none_open gs ≡ true → (gs, d) ≡ close 0 fs e →

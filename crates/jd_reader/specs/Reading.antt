@@ -1,7 +1,9 @@
 -- The reader's state as the machine's, and what its functions answer where the machine goes on so.
-use Rattle.std.specs.Prelude.{◌≡◌, List, [], ◌∷◌, Option, Some, None, Result, Ok, Err}
+use Rattle.std.specs.Prelude.{◌≡◌, ◌≤◌, ℕ, List, [], ◌∷◌, take, Option, Some, None, Result, Ok, Err}
 use Rattle.jd_grammar.specs.Reader as machine
-use Rattle.jd_grammar.specs.Reader.{Config}
+use Rattle.jd_grammar.specs.Reader.{Config, run, start}
+use Rattle.jd_grammar.specs.ScriptDepth.{limit, needs}
+use Rattle.jd_grammar.specs.declared.token.Token.{Token}
 use Rattle.jd_grammar.specs.Script.{Block, Scope}
 use Rattle.jd_script.specs.declared.tree.Block as code-block
 use Rattle.jd_tree.specs.Code.{plain_measured}
@@ -22,6 +24,8 @@ use Rattle.jd_reader.specs.declared.context.Whole.TheVariants as whole
 use Rattle.jd_reader.specs.declared.scopes.Scope as code-scope
 use Rattle.jd_precedence.specs.declared.stop.Stop.{Stop}
 use Rattle.jd_precedence.specs.declared.stop.Stop.TheVariants.{Refused, OutOfMemory}
+use Rattle.jd_precedence.specs.declared.frames.Frame.{Frame}
+use Rattle.jd_precedence.specs.declared.frames.Now.{Now}
 use Rattle.jd_precedence.specs.State.{state}
 use Rattle.jd_script.specs.CodeScript.{plain_arms, plain_lines, plain_place}
 
@@ -73,10 +77,19 @@ plain_mode (mode.Complete s) = machine.complete (plain_stmt s.stmt)
 abbrev pub plain_config : code-config.Config → Config
 plain_config c = record { context = plain_context c.context; mode = plain_mode c.mode }
 
+-- an expression is read, with what stands round it
+abbrev pub plain_reading : code-context.Context → code-bottom.Bottom → List Frame → Now → Config
+plain_reading ctx b fs n = record { context = plain_context ctx; mode = machine.at_expression (plain_bottom b) (state fs n) }
+
 abbrev pub plain_whole : code-whole.Whole → machine.Whole
 plain_whole whole.Nothing = machine.nothing_whole
 plain_whole (whole.Place m) = machine.a_place (plain_place m)
 plain_whole (whole.Header x h e) = machine.a_header (plain_arms x) (plain_header h) (plain_measured e)
+
+-- the tokens before the place were read, within the limit
+pub record HasRead (ts : List Token) (place : ℕ) (c : Config) : Type 0 where
+  pub read : run (take place ts) start ≡ Some c
+  pub within : needs c ≤ limit
 
 -- the code goes on as the machine does, and refuses where it does, unless memory runs out
 abbrev pub Leads : Option Config → Result code-config.Config Stop → Type 0

@@ -1,8 +1,8 @@
 -- Which tokens a statement takes, and which the expression at its end.
-use Rattle.std.specs.Prelude.{Bool, true, false, List, [], Option, Some, None}
+use Rattle.std.specs.Prelude.{Bool, true, false, not, ◌&&◌, List, [], Option, Some, None}
 use Rattle.jd_grammar.specs.declared.token.Kind.{Kind}
 use Rattle.jd_grammar.specs.declared.token.Kind.TheVariants.{Function, If, Elseif, Else, While, For, Try, Catch, Return, Break, Continue, End, Using, DistributedFor, Everywhere, Assign, PlusAssign, MinusAssign, StarAssign, Semicolon, LineEnd}
-use Rattle.jd_grammar.specs.Frames.{Frame, State}
+use Rattle.jd_grammar.specs.Frames.{Frame, Now, wanted, got, pending, State}
 use Rattle.jd_grammar.specs.declared.token.Token.{Token}
 use Rattle.jd_grammar.specs.Script.{bare, Opening, Before, Block, Lines}
 use Rattle.jd_grammar.specs.Reader.{Outer, Context, Bottom, in_lead, at_expression, Config, go, end_block, elseif_block, else_block, catch_block}
@@ -43,6 +43,12 @@ is_assigning _ = false
 abbrev pub are_none_open : List Frame → Bool
 are_none_open [] = true
 are_none_open _ = false
+
+-- where the expression alone takes a token of this kind
+abbrev pub is_inner : Kind → List Frame → Now → Bool
+is_inner k fs wanted = not (are_none_open fs && is_beginning k)
+is_inner k fs (got e) = not (is_ending k) && not (are_none_open fs && is_assigning k)
+is_inner k fs (pending w) = true
 
 -- nothing stands before the expression
 abbrev pub is_bare : Bottom → Bool

@@ -5,7 +5,7 @@ ghost use Rattle.jd_grammar.specs.Machine as expression;
 ghost use Rattle.jd_grammar.specs.Reader as machine;
 ghost use Rattle.jd_tree.specs.Code.{plain_measured};
 ghost use Rattle.jd_precedence.specs.State.{plain_frames, plain_now, state};
-ghost use Rattle.jd_reader.specs.Routes.{is_ending as ends, is_beginning as begins, is_assigning as assigns, are_none_open, goes};
+ghost use Rattle.jd_reader.specs.Routes.{is_ending as ends, is_beginning as begins, is_assigning as assigns, is_inner as inner, are_none_open, goes};
 ghost use Rattle.jd_reader.specs.Reading.{plain_bottom, plain_context, Leads};
 
 use crate::blocks::{ending_step, with_expression};
@@ -43,6 +43,17 @@ fn statement_assigns(frames: &Stack<Frame>, kind: Kind) -> bool
     ensures { result ≡ (are_none_open (plain_frames frames.now) && assigns kind) }
 {
     none_open(frames) && is_assigning(kind)
+}
+
+/// Whether the statement takes nothing at a token, so that the expression alone goes on or nothing does.
+pub fn is_inner(frames: &Stack<Frame>, now: &Now, kind: Kind) -> bool
+    ensures { result ≡ inner kind (plain_frames frames.now) (plain_now now.now) }
+{
+    match now {
+        Now::Wanted => !statement_begins(frames, kind),
+        Now::Got(_) => !is_ending(kind) && !statement_assigns(frames, kind),
+        Now::Pending(_) => true,
+    }
 }
 
 /// Reads a token that only the expression takes.

@@ -15,7 +15,9 @@ mod reading;
 mod refusal;
 mod scopes;
 mod statements;
+mod stretch;
 mod words;
 
-pub use reading::{NESTING_LIMIT, read};
+pub use limits::NESTING_LIMIT;
+pub use reading::read;
 pub use refusal::{Fault, Refusal};

@@ -1,14 +1,15 @@
 //! How deep the shallowest script nests that begins with what was read.
 ghost use Rattle.std.specs.Prelude.{◌≡◌, ◌+◌, max, if◌then◌else◌};
+ghost use Rattle.jd_grammar.specs.Reader as machine;
 ghost use Rattle.jd_grammar.specs.ScriptDepth as grammar;
 ghost use Rattle.jd_tree.specs.Measures.{height_up_to};
 ghost use Rattle.jd_script.specs.CodeScript.{plain_lines};
 ghost use Rattle.jd_script.specs.PlainScript.{plain_lead, plain_target};
 ghost use Rattle.jd_precedence.specs.State.{plain_frames, plain_now, state};
 ghost use Rattle.jd_reader.specs.Rounds.{round_at};
-ghost use Rattle.jd_reader.specs.Reading.{plain_awaited, plain_config, plain_mode, plain_outer, plain_outers};
+ghost use Rattle.jd_reader.specs.Reading.{plain_awaited, plain_bottom, plain_config, plain_mode, plain_outer, plain_outers, plain_reading};
 
-use crate::context::{Awaited, Bottom, Config, Mode, Outer};
+use crate::context::{Awaited, Bottom, Config, Context, Mode, Outer};
 use crate::expressions::none_open;
 use jd_precedence::depth::needs_of;
 use jd_precedence::frames::{Frame, Now};
@@ -16,6 +17,9 @@ use jd_precedence::stack::Stack;
 use jd_script::blocks::{header_weight_of, lead_weight_of, weight_of};
 use jd_script::nested::Lines;
 use jd_script::tree::{Lead, Target};
+
+/// How many constructs may stand round a token.
+pub const NESTING_LIMIT: u8 = 100;
 
 fn target_weight(target: &Option<Target>) -> u8
     ensures { result ≡ grammar.target_weight (plain_target target.now) }
@@ -83,18 +87,37 @@ fn lead_needs(lead: &Lead, frames: &Stack<Frame>, now: &Now) -> u8
     }
 }
 
+/// A statement of which an expression is read now, without its block.
+fn bottom_needs(bottom: &Bottom, frames: &Stack<Frame>, now: &Now) -> u8
+    ensures { result ≡ height_up_to (grammar.mode_needs (machine.at_expression (plain_bottom bottom.now) (state frames.now now.now))) }
+{
+    match bottom {
+        Bottom::Lead(lead) => lead_needs(lead, frames, now),
+        Bottom::Header(before, header) => {
+            let deepest = before.nesting.max(needs_of(frames, now));
+            header_weight_of(header.get()).saturating_add(deepest)
+        }
+    }
+}
+
 /// The statement that is read now, without its block.
 fn mode_needs(mode: &Mode) -> u8
     ensures { result ≡ height_up_to (grammar.mode_needs (plain_mode mode.now)) }
 {
     match mode {
-        Mode::Expression(Bottom::Lead(lead), frames, now) => lead_needs(lead, frames, now),
-        Mode::Expression(Bottom::Header(before, header), frames, now) => {
-            let deepest = before.nesting.max(needs_of(frames, now));
-            header_weight_of(header.get()).saturating_add(deepest)
-        }
+        Mode::Expression(bottom, frames, now) => bottom_needs(bottom, frames, now),
         Mode::Words(awaited) => awaited_needs(awaited.get()),
         Mode::Complete(statement) => statement.nesting,
+    }
+}
+
+/// Whether a statement of which an expression is read now has begun.
+fn expression_begun(bottom: &Bottom, frames: &Stack<Frame>, now: &Now) -> bool
+    ensures { result ≡ grammar.has_begun (machine.at_expression (plain_bottom bottom.now) (state frames.now now.now)) }
+{
+    match bottom {
+        Bottom::Lead(Lead::Bare) => !is_fresh(frames, now),
+        _ => true,
     }
 }
 
@@ -103,8 +126,8 @@ fn has_begun(mode: &Mode) -> bool
     ensures { result ≡ grammar.has_begun (plain_mode mode.now) }
 {
     match mode {
-        Mode::Expression(Bottom::Lead(Lead::Bare), frames, now) => !is_fresh(frames, now),
-        _ => true,
+        Mode::Expression(bottom, frames, now) => expression_begun(bottom, frames, now),
+        Mode::Words(_) | Mode::Complete(_) => true,
     }
 }
 
@@ -150,6 +173,16 @@ fn round_needs(outer: &Stack<Outer>, lines: u8, has_token: bool, height: u8) -> 
         depth += 1;
     }
     deepest.max(height)
+}
+
+/// The least depth of a script in which that expression is read, up to 255.
+pub fn expression_needs(context: &Context, bottom: &Bottom, frames: &Stack<Frame>, now: &Now) -> u8
+    ensures { result ≡ height_up_to (grammar.needs (plain_reading context.now bottom.now frames.now now.now)) }
+{
+    let begun = expression_begun(bottom, frames, now);
+    let has_token = has_token_in(&context.lines, begun);
+    let height = bottom_needs(bottom, frames, now);
+    round_needs(&context.outer, context.lines.nesting, has_token, height)
 }
 
 /// The least depth of a script that begins with what was read, up to 255.

@@ -12,8 +12,9 @@ ghost use Rattle.jd_reader.specs.Answers.{IsRefusal, Reads, Refuses, RefusesAt, 
 use crate::blocks::{expression_in, nothing, with_expression, without_expression};
 use crate::context::{Bottom, Config, Context, Mode, Whole};
 use crate::expressions::{expression_step, none_open};
-use crate::limits::script_needs;
+use crate::limits::{NESTING_LIMIT, script_needs};
 use crate::refusal::{Fault, Refusal, fault_of, refusal_of};
+use crate::stretch::read_stretch;
 use crate::words::{complete_step, words_step};
 use jd_grammar::token::Token;
 use jd_precedence::close::close_all;
@@ -23,9 +24,6 @@ use jd_precedence::stop::{Stop, refuse};
 use jd_script::blocks::{block_of, no_lines};
 use jd_script::tree::{Block, Lead};
 use std::alloc::{AllocError, Global};
-
-/// How many constructs may stand round a token.
-pub const NESTING_LIMIT: u8 = 100;
 
 /// Reads one token.
 fn step(alloc: Global, config: Config, token: Token) -> Result<Config, Stop>
@@ -121,7 +119,8 @@ fn read_all(alloc: Global, tokens: &[Token]) -> Result<Block, Fault>
     ensures refused { IfErr result (Refuses tokens.now) }
 {
     let mut config = start(alloc);
-    for place in 0..tokens.len() {
+    let mut place = 0;
+    while place < tokens.len() {
         let token = tokens[place];
         match step(alloc, config, token) {
             Ok(next) => config = next,
@@ -133,6 +132,9 @@ fn read_all(alloc: Global, tokens: &[Token]) -> Result<Block, Fault>
                 refusal: refusal_of(token, Refusal::TooDeep),
             });
         }
+        let (next, behind) = read_stretch(alloc, config, tokens, place + 1)?;
+        config = next;
+        place = behind;
     }
     match finish(alloc, config) {
         Ok(block) => Ok(block),

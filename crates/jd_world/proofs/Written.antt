@@ -1,7 +1,8 @@
 -- Rows of workers as functions.
 use Rattle.std.specs.Prelude.{◌≡◌, ◌≢◌, ℕ, ◌==◌, ◌&&◌, ◌∷◌, ◌++◌, List, [], Option, None, Some, Bool, true, false, cond, if◌then◌else◌, IsSome, Result, Ok, Err, OnOk, OnErr, IfOk, MatchOption, map}
 use Rattle.std.specs.Ordering.{nat_cmp}
-use Rattle.std.specs.BTreeMap.{is_at, get, Updates}
+use Rattle.std.specs.BTreeMap.{BTreeMap, is_at, get, Updates}
+use Rattle.std.specs.Map.{lookup}
 use Rattle.std.specs.Cmp.{unsigned_ties}
 use Rattle.std.proofs.Common.{refl, sym, ap, subst, ◌∙◌, arith}
 use Rattle.std.proofs.lemmas.Bool.Decides.{nat_tests}
@@ -11,11 +12,12 @@ use Rattle.jd_model.specs.Table.{put, put2}
 use Rattle.jd_model.specs.declared.mark.Mark.{Mark}
 use Rattle.jd_model.specs.Node.{Node, first_node, delivered, ran}
 use Rattle.jd_model.specs.World.{marked}
-use Rattle.jd_node.specs.View.{node_of}
+use Rattle.jd_node.specs.View.{node_of, id_of}
 use Rattle.jd_node.specs.Mail.{mail_of, no_mail}
 use Rattle.jd_node.specs.Steps.{Sends}
 use Rattle.jd_world.specs.declared.worker.Worker.{Worker}
 use Rattle.jd_world.specs.declared.workers.Workers.{Workers}
+use Rattle.jd_world.specs.Rows.{AreKeyed}
 use Rattle.jd_world.specs.Workers.{worker_node, worker_links, nodes_of, links_to, Arrives, Runs, EmitsAt, ArrivesAt, RunsAt}
 
 -- a look-up at a number
@@ -182,3 +184,28 @@ runs_not a b q w w' h none n = (subst (λ (m : Node). ran q m m.ready ≡ None) 
 
 pub runs_can : (a : Workers) (q : ℕ) (w : Worker) → Some w ≡ get nat_cmp a.rows q → ran q (node_of w.node) (node_of w.node).ready ≢ None → ran q (nodes_of a q) (nodes_of a q).ready ≢ None
 runs_can a q w e some = subst (λ (m : Node). ran q m m.ready ≢ None) (sym (node_at a q w e)) some
+
+-- ---- each worker stands under the number of its node
+
+pub keyed_at : (a : BTreeMap ℕ Worker) (q : ℕ) (w : Worker) → AreKeyed a → Some w ≡ get nat_cmp a q → id_of w.node ≡ q
+keyed_at a q w k e = k q w (sym e)
+
+pub keyed_put : (a b : BTreeMap ℕ Worker) (q : ℕ) (w : Worker) → AreKeyed a → Updates nat_cmp a b q (Some w) → id_of w.node ≡ q → AreKeyed b
+keyed_put a b q w k u e p x h = by_test (is_at (nat_cmp q) p) refl (sym (u.0 p) ∙ h)
+  where
+    by_test : (t : Bool) → is_at (nat_cmp q) p ≡ t → cond t (Some w) (get nat_cmp a p) ≡ Some x → id_of x.node ≡ p
+    by_test true at is = let test : (p == q) ≡ true = sym (same_test q p) ∙ at in let here : q ≡ p = grind (arith, nat_tests, test) in cc
+    by_test false at is = k p x is
+
+pub keyed_written : (a b : BTreeMap ℕ Worker) (q : ℕ) (w w' : Worker) → AreKeyed a → Some w ≡ get nat_cmp a q
+    → (IsSome (get nat_cmp a q) → Updates nat_cmp a b q (Some w')) → id_of w'.node ≡ id_of w.node → AreKeyed b
+keyed_written a b q w w' k e u same = keyed_put a b q w' k (u (subst IsSome e refl)) (same ∙ keyed_at a q w k e)
+
+pub keyed_same : (a b : BTreeMap ℕ Worker) → AreKeyed a → b.entries ≡ a.entries → AreKeyed b
+keyed_same a b k e p x h = k p x (ap (λ (es : List (ℕ × Worker)). lookup (is_at (nat_cmp p)) es) (sym e) ∙ h)
+
+-- or the worker couldn't be placed
+pub keyed_placed : {T E : Type 0} (r : Result T E) (a b : BTreeMap ℕ Worker) (q : ℕ) (w : Worker) → AreKeyed a → OnOk r (Updates nat_cmp a b q (Some w)) → OnErr r (b.entries ≡ a.entries)
+    → id_of w.node ≡ q → AreKeyed b
+keyed_placed (Ok v) a b q w k u n e = keyed_put a b q w k u e
+keyed_placed (Err f) a b q w k u n e = keyed_same a b k n

@@ -1,4 +1,5 @@
 pub mod Fabric
+pub mod Rows
 pub mod Workers
 pub mod Outside
 pub mod World

@@ -1,15 +1,16 @@
 -- The world outside process 1, as the code's maps and lists tell it, and what calls do to it.
-use Rattle.std.specs.Prelude.{◌≡◌, ◌≢◌, ℕ, ◌+◌, ◌==◌, ◌≤◌, List, [], ◌∷◌, ◌++◌, None, Some, Result, Ok, Err, ⊤, if◌then◌else◌}
+use Rattle.std.specs.Prelude.{◌≡◌, ◌≢◌, ◌⊎◌, ℕ, ◌+◌, ◌==◌, ◌≤◌, ◌<◌, List, [], ◌∷◌, ◌++◌, true, None, Some, Result, Ok, Err, ⊤, if◌then◌else◌}
 use Rattle.jd_task.specs.declared.msg.Msg.{Msg}
 use Rattle.jd_model.specs.declared.event.Event.{Event}
 use Rattle.jd_model.specs.declared.event.Event.TheVariants.{Emit, Deliver, Run}
 use Rattle.jd_model.specs.Table.{put2}
-use Rattle.jd_model.specs.World.{Told, first_net, happens}
+use Rattle.jd_model.specs.World.{Told, Moves, first_net, happens}
 use Rattle.jd_model.specs.declared.mark.Mark.{Mark}
 use Rattle.jd_node.specs.declared.fault.NodeFault.{NodeFault}
 use Rattle.jd_node.specs.declared.fault.NodeFault.TheVariants as node
 use Rattle.jd_node.specs.declared.mail.Mail.{Mail}
 use Rattle.jd_node.specs.Mail.{mail_of}
+use Rattle.jd_node.specs.Steps.{run_passes}
 use Rattle.jd_world.specs.declared.fabric.Arrival.{Arrival}
 use Rattle.jd_world.specs.declared.fabric.Arrival.TheVariants.{Message, Quiet}
 use Rattle.jd_world.specs.declared.outside.Outside.{Outside}
@@ -75,6 +76,18 @@ Steps e t u (Err NotPossible) = (happens t e ≡ None) × (u ≡ t)
 Steps e t u (Err Limit) = IsFull t × (u ≡ t)
 Steps e t u (Err f) = SameMarks t u
 
+-- The event is a step that would have to raise a number of its process above the greatest.
+abbrev pub IsSpentBy : Told → Event → Type 0
+IsSpentBy t (Run p) = run_passes (t.outside.net.nodes p) ≡ true
+IsSpentBy t (Emit p q) = ⊥
+IsSpentBy t (Deliver p q) = ⊥
+
+-- The event's message goes to neither process 1 nor one of so many workers, which are numbered from 2.
+abbrev pub LeavesCluster : ℕ → Event → Type 0
+LeavesCluster count (Emit p q) = (q ≡ 0) ⊎ (count + 1 < q)
+LeavesCluster count (Deliver p q) = ⊥
+LeavesCluster count (Run p) = ⊥
+
 -- No event of that process is possible, nor of a link to it.
 pub record IsStill (t : Told) (p : ℕ) : Type 0 where
   pub emit : (q : ℕ) → happens t (Emit p q) ≡ None
@@ -101,3 +114,30 @@ Finds t u (Err f) = MovesMarks t u
 abbrev pub IsFromWorker : ℕ → Arrival → Type 0
 IsFromWorker count (Message p m) = (2 ≤ p) × (p ≤ count + 1)
 IsFromWorker count Quiet = ⊤
+
+-- Possible events lead to a world in which a possible step would have to raise a number above the greatest.
+pub record ComesToSpent (t : Told) : Type 0 where
+  pub to : Told
+  pub moves : Moves t to
+  pub event : Event
+  pub possible : CanHappen to event
+  pub spent : IsSpentBy to event
+
+-- A message can leave for a process that is none of a cluster with so many workers.
+pub record CanLeave (count : ℕ) (t : Told) : Type 0 where
+  pub event : Event
+  pub possible : CanHappen t event
+  pub leaves : LeavesCluster count event
+
+-- A message for process 1 waits on a link from none of so many workers.
+pub record HearsStranger (count : ℕ) (t : Told) : Type 0 where
+  pub from : ℕ
+  pub waits : t.outside.net.links from 1 ≢ []
+  pub other : (from ≤ 1) ⊎ (count + 1 < from)
+
+-- Possible events lead to a world in which a message can leave for a process that is none of the cluster, or one for
+-- process 1 waits on a link from none of the workers.
+pub record ComesToStranger (count : ℕ) (t : Told) : Type 0 where
+  pub to : Told
+  pub moves : Moves t to
+  pub stranger : CanLeave count to ⊎ HearsStranger count to

@@ -1,9 +1,11 @@
 //! The steps of a process, and their marks in the record.
-ghost use Rattle.std.specs.Prelude.{◌≡◌, ◌≢◌, IfOk, OnOk, OnErr, map, ◌++◌, [], true, false, None};
+ghost use Rattle.std.specs.Prelude.{◌≡◌, ◌≢◌, IfOk, IfErr, OnOk, OnErr, map, ◌++◌, [], true, false, None};
 ghost use Rattle.jd_model.specs.Node.{ran};
 ghost use Rattle.jd_model.specs.World.{marked};
 ghost use Rattle.jd_node.specs.View.{node_of, id_of};
 ghost use Rattle.jd_node.specs.Mail.{mail_of};
+ghost use Rattle.jd_node.specs.Steps.{run_passes};
+ghost use Rattle.jd_node.specs.declared.fault.NodeFault.TheVariants as fault;
 ghost use Rattle.jd_world.specs.Workers.{Arrives, Runs};
 
 use jd_model::{Effect, Mark};
@@ -36,6 +38,7 @@ pub(crate) fn arrive(
     ensures none { IfOk result (λ went. went ≡ false → (mail_of links.old from ≡ []) × (mail_of links.new ≡ mail_of links.old) × (node_of node.new ≡ node_of node.old) × (marks.new.items ≡ marks.old.items)) }
     ensures went { IfOk result (λ went. went ≡ true → Arrives number from (node_of node.old) (node_of node.new) (mail_of links.old) (mail_of links.new) marks.old.items marks.new.items) }
     ensures can { OnErr result (mail_of links.old from ≢ []) }
+    ensures memory { IfErr result (λ e. e ≡ fault.OutOfMemory) }
     ensures err { OnErr result (marks.new.items ≡ marks.old.items) }
     ensures id { id_of node.new ≡ id_of node.old }
 {
@@ -55,17 +58,16 @@ pub(crate) fn arrive(
 
 /// The oldest task of the node of this number that can go on goes on. False exactly where there is none.
 pub(crate) fn go_on(node: &mut Node, number: u32, marks: &mut Vec<Mark>) -> Result<bool, NodeFault>
+    requires { id_of node.old ≡ number }
     ensures none { IfOk result (λ went. went ≡ false → (ran number (node_of node.old) (node_of node.old).ready ≡ None) × (node_of node.new ≡ node_of node.old) × (marks.new.items ≡ marks.old.items)) }
     ensures went { IfOk result (λ went. went ≡ true → Runs number (node_of node.old) (node_of node.new) marks.old.items marks.new.items) }
     ensures can { OnErr result (ran number (node_of node.old) (node_of node.old).ready ≢ None) }
+    ensures limit { IfErr result (λ e. e ≡ fault.Limit → run_passes (node_of node.old) ≡ true) }
     ensures err { OnErr result (marks.new.items ≡ marks.old.items) }
     ensures id { id_of node.new ≡ id_of node.old }
 {
     if !node.ready() {
         return Ok(false);
-    }
-    if node.id() != number {
-        return Err(NodeFault::OutOfMemory);
     }
     match node.go_on() {
         Ok(true) => {}

@@ -1,10 +1,10 @@
 //! What comes to process 1.
-ghost use Rattle.std.specs.Prelude.{◌≡◌, ℕ, ◌<◌, IfOk, IfErr, MatchOption, true};
+ghost use Rattle.std.specs.Prelude.{◌≡◌, ℕ, ◌<◌, IfOk, IfErr, MatchOption, true, false};
 ghost use Rattle.jd_world.specs.Fabric.{max_events};
 ghost use Rattle.jd_world.specs.declared.fabric.Arrival.TheVariants.{Message};
-ghost use Rattle.jd_world.specs.declared.step_fault.StepFault.TheVariants.{Stranger};
+ghost use Rattle.jd_world.specs.declared.step_fault.StepFault.TheVariants.{Spent, Stranger};
 ghost use Rattle.jd_world.specs.Workers.{IsIdle, CanMove};
-ghost use Rattle.jd_world.specs.Outside.{told_of, Finds, IsStill, CanHappen, TakesOff, IsFromWorker, IsEmptyToMain};
+ghost use Rattle.jd_world.specs.Outside.{told_of, Finds, IsStill, CanHappen, ComesToSpent, ComesToStranger, TakesOff, IsFromWorker, IsEmptyToMain};
 
 use crate::fabric::Arrival;
 use crate::outside::Outside;
@@ -17,7 +17,7 @@ use jd_task::Msg;
 /// A message for process 1, which comes from a worker.
 fn arrival(is_worker: bool, from: u32, msg: Msg) -> Result<Arrival, StepFault>
     ensures ok { IfOk result (λ a. (is_worker ≡ true) × (a ≡ Message from msg)) }
-    ensures err { IfErr result (λ e. e ≡ Stranger) }
+    ensures err { IfErr result (λ e. (is_worker ≡ false) × (e ≡ Stranger)) }
 {
     if is_worker {
         Ok(Arrival::Message { from, msg })
@@ -89,8 +89,13 @@ impl Outside {
     }
 
     /// Possible events of the workers and the links, until a message for process 1 is there or nothing is possible.
+    /// `Spent` comes only where such events lead to a possible step that would have to raise a number of its process
+    /// above the greatest, and `Stranger` only where they lead to a message that can leave for a process that the cluster
+    /// doesn't have, or to one for process 1 from a process that is no worker.
     pub(crate) fn receive(&mut self) -> Result<Arrival, StepFault>
         ensures found { Finds (told_of self.old) (told_of self.new) result }
+        ensures spent { IfErr result (λ e. e ≡ Spent → ComesToSpent (told_of self.old)) }
+        ensures stranger { IfErr result (λ e. e ≡ Stranger → ComesToStranger self.old.workers.count (told_of self.old)) }
         ensures from { IfOk result (IsFromWorker self.old.workers.count) }
         ensures count { self.new.workers.count ≡ self.old.workers.count }
     {

@@ -1,10 +1,12 @@
 //! What the workers of the simulated cluster do.
-ghost use Rattle.std.specs.Prelude.{◌≡◌, ◌≢◌, ℕ, ◌+◌, ◌<◌, ◌≤◌, ◌^◌, IfOk, OnOk, OnErr, ◌⊎◌, MatchOption, MatchBool, List, [], ◌∷◌, ◌++◌, map, true, false, None, Some};
+ghost use Rattle.std.specs.Prelude.{◌≡◌, ◌≢◌, ℕ, ◌+◌, ◌<◌, ◌≤◌, ◌^◌, IfOk, IfErr, OnOk, OnErr, ◌⊎◌, MatchOption, MatchBool, List, [], ◌∷◌, ◌++◌, map, true, false, None, Some};
 ghost use Rattle.std.specs.Ordering.{nat_cmp};
 ghost use Rattle.std.specs.BTreeMap.{get, Updates};
 ghost use Rattle.jd_task.specs.declared.msg.Msg.{Msg as Message};
 ghost use Rattle.jd_model.specs.Table.{put, put2};
 ghost use Rattle.jd_model.specs.Node.{first_node, ran};
+ghost use Rattle.jd_node.specs.Steps.{run_passes};
+ghost use Rattle.jd_node.specs.declared.fault.NodeFault.TheVariants as fault;
 ghost use Rattle.jd_world.specs.Workers.{nodes_of, links_to, no_links, EmitsAt, ArrivesAt, RunsAt};
 
 use crate::process;
@@ -19,7 +21,8 @@ use std::collections::BTreeMap;
 
 /// Puts a worker under its number.
 fn place(rows: &mut BTreeMap<u32, Worker>, number: u32, worker: Worker) -> Result<(), OutOfMemory>
-    ensures { OnOk result (Updates nat_cmp rows.old rows.new number (Some worker)) }
+    ensures ok { OnOk result (Updates nat_cmp rows.old rows.new number (Some worker)) }
+    ensures err { OnErr result (rows.new.entries ≡ rows.old.entries) }
 {
     rows.insert(number, worker)?;
     Ok(())
@@ -109,6 +112,7 @@ impl Workers {
         ensures none { IfOk result (λ went. went ≡ false → (links_to self.old to from ≡ []) × (nodes_of self.new ≡ nodes_of self.old) × (links_to self.new ≡ links_to self.old) × (marks.new.items ≡ marks.old.items)) }
         ensures went { IfOk result (λ went. went ≡ true → ArrivesAt to from self.old self.new marks.old.items marks.new.items) }
         ensures can { OnErr result (links_to self.old to from ≢ []) }
+        ensures memory { IfErr result (λ e. e ≡ fault.OutOfMemory) }
         ensures err { OnErr result (marks.new.items ≡ marks.old.items) }
         ensures count { self.new.count ≡ self.old.count }
     {
@@ -123,6 +127,7 @@ impl Workers {
         ensures none { IfOk result (λ went. went ≡ false → (ran number (nodes_of self.old number) (nodes_of self.old number).ready ≡ None) × (nodes_of self.new ≡ nodes_of self.old) × (marks.new.items ≡ marks.old.items)) }
         ensures went { IfOk result (λ went. went ≡ true → RunsAt number self.old self.new marks.old.items marks.new.items) }
         ensures can { OnErr result (ran number (nodes_of self.old number) (nodes_of self.old number).ready ≢ None) }
+        ensures limit { IfErr result (λ e. e ≡ fault.Limit → run_passes (nodes_of self.old number) ≡ true) }
         ensures err { OnErr result (marks.new.items ≡ marks.old.items) }
         ensures links { links_to self.new ≡ links_to self.old }
         ensures count { self.new.count ≡ self.old.count }

@@ -1,9 +1,10 @@
 //! Events of the workers and the links.
-ghost use Rattle.std.specs.Prelude.{◌≡◌, ◌==◌, ◌<◌, ◌+◌, ◌^◌, length, OnOk, true, false};
+ghost use Rattle.std.specs.Prelude.{◌≡◌, ◌≢◌, ◌⊎◌, ◌==◌, ◌<◌, ◌≤◌, ◌+◌, ◌^◌, length, IfErr, OnOk, true, false};
 ghost use Rattle.jd_model.specs.declared.event.Event.TheVariants.{Emit, Deliver, Run};
 ghost use Rattle.jd_world.specs.Fabric.{IsFull, max_events, max_marks};
 ghost use Rattle.jd_world.specs.Outside as spec;
-ghost use Rattle.jd_world.specs.Outside.{told_of, told_first, linked, Tries, Steps};
+ghost use Rattle.jd_world.specs.Outside.{told_of, told_first, linked, CanHappen, IsSpentBy, LeavesCluster, Tries, Steps};
+ghost use Rattle.jd_world.specs.declared.step_fault.StepFault.TheVariants.{Spent, Stranger};
 
 use crate::outside::Outside;
 use crate::step_fault::StepFault;
@@ -55,7 +56,10 @@ impl Outside {
     }
 
     /// Whether the cluster has that process.
-    pub(crate) fn has(&self, process: u32) -> bool {
+    pub(crate) fn has(&self, process: u32) -> bool
+        ensures process { result ≡ true → (1 ≤ process) × (process ≤ self.now.workers.count + 1) }
+        ensures other { result ≡ false → (process ≡ 0) ⊎ (self.now.workers.count + 1 < process) }
+    {
         process == 1 || self.workers.is_worker(process)
     }
 
@@ -76,6 +80,7 @@ impl Outside {
     fn emit_from(&mut self, from: u32, to: u32) -> Result<(), StepFault>
         requires { (from == 1) ≡ false }
         ensures tries { Tries (Emit from to) (told_of self.old) (told_of self.new) result }
+        ensures cause { IfErr result (λ e. (e ≢ Spent) × (e ≢ Stranger)) }
         ensures events { self.new.events ≡ self.old.events }
         ensures count { self.new.workers.count ≡ self.old.workers.count }
     {
@@ -92,6 +97,8 @@ impl Outside {
     /// The oldest message of the first process to the second leaves.
     fn emit(&mut self, from: u32, to: u32) -> Result<(), StepFault>
         ensures tries { Tries (Emit from to) (told_of self.old) (told_of self.new) result }
+        ensures spent { IfErr result (λ e. e ≡ Spent → IsSpentBy (told_of self.old) (Emit from to)) }
+        ensures stranger { IfErr result (λ e. e ≡ Stranger → LeavesCluster self.old.workers.count (Emit from to)) }
         ensures events { self.new.events ≡ self.old.events }
         ensures count { self.new.workers.count ≡ self.old.workers.count }
     {
@@ -110,6 +117,8 @@ impl Outside {
     /// The first message on the link between these processes arrives.
     fn arrive(&mut self, from: u32, to: u32) -> Result<(), StepFault>
         ensures tries { Tries (Deliver from to) (told_of self.old) (told_of self.new) result }
+        ensures spent { IfErr result (λ e. e ≡ Spent → IsSpentBy (told_of self.old) (Deliver from to)) }
+        ensures stranger { IfErr result (λ e. e ≡ Stranger → LeavesCluster self.old.workers.count (Deliver from to)) }
         ensures events { self.new.events ≡ self.old.events }
         ensures count { self.new.workers.count ≡ self.old.workers.count }
     {
@@ -126,6 +135,8 @@ impl Outside {
     /// The oldest task of a worker that can go on goes on.
     fn go_on(&mut self, number: u32) -> Result<(), StepFault>
         ensures tries { Tries (Run number) (told_of self.old) (told_of self.new) result }
+        ensures spent { IfErr result (λ e. e ≡ Spent → IsSpentBy (told_of self.old) (Run number)) }
+        ensures stranger { IfErr result (λ e. e ≡ Stranger → LeavesCluster self.old.workers.count (Run number)) }
         ensures events { self.new.events ≡ self.old.events }
         ensures count { self.new.workers.count ≡ self.old.workers.count }
     {
@@ -142,6 +153,8 @@ impl Outside {
     /// An event, but that it isn't counted.
     pub(crate) fn go(&mut self, event: &Event) -> Result<(), StepFault>
         ensures tries { Tries event.now (told_of self.old) (told_of self.new) result }
+        ensures spent { IfErr result (λ e. e ≡ Spent → IsSpentBy (told_of self.old) event.now) }
+        ensures stranger { IfErr result (λ e. e ≡ Stranger → LeavesCluster self.old.workers.count event.now) }
         ensures events { self.new.events ≡ self.old.events }
         ensures count { self.new.workers.count ≡ self.old.workers.count }
     {
@@ -155,8 +168,12 @@ impl Outside {
 
 /// An event of the workers or the links. `NotPossible` and `Limit` leave the world as it was, `Limit` exactly where the
 /// record has 1,000,000 marks or the world made 10,000,000 events; after another fault the world is used no more.
+/// `Spent` comes only where the event is a worker's step that would have to raise a number of it above the greatest, and
+/// `Stranger` only where the event's message goes to a process that the cluster doesn't have.
 pub fn outside_step(outside: &mut Outside, event: &Event) -> Result<(), StepFault>
     ensures steps { Steps event.now (told_of outside.old) (told_of outside.new) result }
+    ensures spent { IfErr result (λ e. e ≡ Spent → CanHappen (told_of outside.old) event.now × IsSpentBy (told_of outside.old) event.now) }
+    ensures stranger { IfErr result (λ e. e ≡ Stranger → CanHappen (told_of outside.old) event.now × LeavesCluster outside.old.workers.count event.now) }
     ensures count { outside.new.workers.count ≡ outside.old.workers.count }
 {
     if outside.is_full() {

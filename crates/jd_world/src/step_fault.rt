@@ -7,9 +7,9 @@ pub enum StepFault {
     NotPossible,
     /// The record or the world is full: 1,000,000 marks, or 10,000,000 events.
     Limit,
-    /// A message goes to a process that the cluster doesn't have.
+    /// A message goes to a process that the cluster doesn't have, or comes to process 1 from one that is no worker.
     Stranger,
-    /// A number of a worker would have to rise above the greatest of 64 bits.
+    /// A number of a process would have to rise above the greatest of 64 bits.
     Spent,
     OutOfMemory,
 }

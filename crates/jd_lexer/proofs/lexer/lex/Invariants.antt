@@ -1,6 +1,7 @@
 use Rattle.std.proofs.Common.{◌≡◌, ◌≤◌, ◌-◌, length, drop}
 use Rattle.jd_lexer.specs.Lexical.{IsWithin, scan, lexed}
 use Rattle.jd_lexer.specs.Lexing.{lexed_of}
+use Rattle.jd_lexer.specs.Names.{AreNoWords}
 use Rattle.jd_lexer.proofs.lexer.lex.Given as goal
 
 -- what is left to read gives what all bytes give
@@ -8,6 +9,7 @@ abbrev pub invariant-loop-at : goal.invariant-loop-at
 invariant-loop-at l = record {
   within : l.at ≤ length l.bytes;
   counts : IsWithin (lexed_of l.lexer) l.at;
+  names : AreNoWords (lexed_of l.lexer).names;
   told : scan l.at 0 (lexed_of l.lexer) (drop l.at l.bytes) ≡ lexed l.bytes;
 }
 

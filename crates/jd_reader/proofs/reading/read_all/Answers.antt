@@ -16,8 +16,8 @@ returns-then-script_needs-gt-NESTING_LIMIT-clause-refused c =
     deep_at c.args.tokens.now l.place _ (plain_config l.config) (plain_config c.in-Ok.next) c.script_needs.result c.refusal_of-then-script_needs-gt-NESTING_LIMIT.result c.loop-place-test.true l.invariant.read l.invariant.within c.in-Ok.ensures
     c.script_needs.ensures c.if-script_needs-gt-NESTING_LIMIT.true c.refusal_of-then-script_needs-gt-NESTING_LIMIT.ensures
 
-pub loop-place-preserved : goal.loop-place-preserved
-loop-place-preserved c =
+pub read_stretch-requires : goal.read_stretch-requires
+read_stretch-requires c =
     let l = c.loop-place in
     record {
       read = run_next c.args.tokens.now l.place _ (plain_config l.config) (Some (plain_config c.in-Ok.next)) c.loop-place-test.true l.invariant.read c.in-Ok.ensures;

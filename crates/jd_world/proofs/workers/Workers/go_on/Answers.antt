@@ -1,5 +1,7 @@
-use Rattle.std.proofs.Common.{refl}
-use Rattle.jd_world.proofs.Written.{written, if_ok, on_err, runs_at, runs_not, runs_can, same_links}
+use Rattle.std.proofs.Common.{refl, sym, subst}
+use Rattle.jd_world.specs.declared.worker.Worker.{Worker}
+use Rattle.jd_world.specs.Rows.{AreKeyed}
+use Rattle.jd_world.proofs.Written.{written, if_ok, on_err, runs_at, runs_not, runs_can, same_links, keyed_written}
 use Rattle.jd_world.proofs.workers.Workers.go_on.Goals as goal
 
 pub returns-in-Some-clause-none : goal.returns-in-Some-clause-none
@@ -14,3 +16,10 @@ returns-in-Some-clause-links c = same_links _ _ _ _ _ (written c.args.self.now _
 
 pub returns-in-Some-clause-can : goal.returns-in-Some-clause-can
 returns-in-Some-clause-can c = on_err c.go_on.result c.go_on.ensures.can (runs_can c.args.self.now c.args.number c.in-Some.worker.now c.in-Some.ensures.value)
+
+pub invariant_of-self-clause-keyed : goal.invariant_of-self-clause-keyed
+invariant_of-self-clause-keyed c = subst AreKeyed (sym c.get_mut.follows.holds-at-none) c.args.self.now.keyed
+
+pub invariant_of-self-in-Some-clause-keyed : goal.invariant_of-self-in-Some-clause-keyed
+invariant_of-self-in-Some-clause-keyed c = let w : Worker = record { node = c.go_on.new.node; links = c.in-Some.worker.now.links } in
+    keyed_written c.args.self.now.rows (c.get_mut.follows.lender w) c.args.number c.in-Some.worker.now w c.args.self.now.keyed c.in-Some.ensures.value (c.get_mut.follows.holds w).3 c.go_on.ensures.id
