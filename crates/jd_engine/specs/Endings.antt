@@ -4,7 +4,7 @@ use Rattle.std.specs.Io.KnownBytes.{Appends}
 use Rattle.jd_source.specs.Counts.{Rose}
 use Rattle.jd_source.specs.Content.{AppendsFront}
 use Rattle.jd_syntax.specs.declared.fault.ParseKind.{ParseKind}
-use Rattle.jd_syntax.specs.declared.fault.ParseKind.TheVariants as kind
+use Rattle.jd_syntax.specs.Kinds.{kind_name}
 use Rattle.jd_engine.specs.declared.status.Status.{Status}
 use Rattle.jd_engine.specs.declared.status.Status.TheVariants as status
 use Rattle.jd_engine.specs.declared.status.Ending.{Ending}
@@ -22,16 +22,8 @@ status_of ending.Limit = status.Limit
 status_of ending.Stalled = status.Stalled
 status_of ending.OutOfMemory = status.OutOfMemory
 
-abbrev pub kind_text : ParseKind → List ℕ
-kind_text kind.Bytes = codes "Bytes"
-kind_text kind.Token = codes "Token"
-kind_text kind.Form = codes "Form"
-kind_text kind.WideNumber = codes "WideNumber"
-kind_text kind.TooLong = codes "TooLong"
-kind_text kind.TooDeep = codes "TooDeep"
-
 abbrev pub refusal_line : ℕ → ParseKind → List ℕ
-refusal_line line kind = (codes "REFUSED line " ++ decimal line ++ codes ": ") ++ (kind_text kind ++ 10 ∷ [])
+refusal_line line kind = (codes "REFUSED line " ++ decimal line ++ codes ": ") ++ (kind_name kind ++ 10 ∷ [])
 
 -- The line on standard error.
 abbrev pub line_of : Ending → List ℕ

@@ -3,25 +3,12 @@ ghost use Rattle.std.specs.Prelude.{◌≡◌, ◌≤◌, ◌++◌, ◌∷◌, [
 ghost use Rattle.std.specs.Io.KnownBytes.{Appends};
 ghost use Rattle.jd_source.specs.Counts.{HasCause};
 ghost use Rattle.jd_source.specs.Content.{AppendsFront};
-ghost use Rattle.jd_engine.specs.Endings.{line_of, refusal_line, kind_text, Reports};
+ghost use Rattle.jd_engine.specs.Endings.{line_of, refusal_line, Reports};
 
 use crate::status::Ending;
 use itoa::Buffer;
 use jd_source::{Failed, Sink, write_whole};
 use jd_syntax::ParseKind;
-
-fn kind_bytes(kind: ParseKind) -> &'static [u8]
-    ensures { result.now ≡ kind_text kind }
-{
-    match kind {
-        ParseKind::Bytes => b"Bytes",
-        ParseKind::Token => b"Token",
-        ParseKind::Form => b"Form",
-        ParseKind::WideNumber => b"WideNumber",
-        ParseKind::TooLong => b"TooLong",
-        ParseKind::TooDeep => b"TooDeep",
-    }
-}
 
 fn two<E: Sink>(err: &mut E, a: &[u8], b: &[u8]) -> Result<(), Failed>
     ensures ok { OnOk result (Appends (E.written err.old) (E.written err.new) (a.now ++ b.now)) }
@@ -69,7 +56,7 @@ fn refusal<E: Sink>(err: &mut E, line: u32, kind: ParseKind) -> Result<(), Faile
         b"REFUSED line ",
         digits,
         b": ",
-        kind_bytes(kind),
+        kind.name().as_bytes(),
         b"\n",
     )
 }

@@ -3,7 +3,7 @@ ghost use Rattle.std.specs.Prelude.{◌≡◌, ◌+◌, ◌≤◌, ◌<◌, ◌^
 ghost use Rattle.std.specs.HashSet.{hash_set_len};
 ghost use Rattle.jd_lexer.specs.Lexical.{is_line_end, joins, opened, lexeme_at, gap_at, with_gap, with_token, with_lexeme, start, lexed, IsWithin};
 ghost use Rattle.jd_lexer.specs.Lexing.{lexed_of};
-ghost use Rattle.jd_lexer.specs.Names.{texts_of, AreNoWords};
+ghost use Rattle.jd_lexer.specs.Names.{texts_of, AreNoWords, known_at};
 
 use crate::lexeme::{Lexeme, Text, is_letter, lexeme_at, line_end, name_end, slice, starts_with};
 use crate::names::{known_number, number_of};
@@ -158,13 +158,14 @@ impl<'a> Lexer<'a> {
         }
     }
 
-    /// Adds the name at a place where it was read before, and says how many bytes it has behind its first. None where no
-    /// such name stands. A name that was read before is no word, so that it need not be compared with the words.
+    /// Adds the name at a place where it was read before, and says how many bytes it has behind its first. None exactly
+    /// where no such name stands. A name that was read before is no word, so that it need not be compared with the words.
     fn add_known(&mut self, bytes: &'a [u8], at: usize) -> Result<Option<usize>, AllocError>
         requires place { at < length bytes.now }
         requires short { length bytes.now < 2 ^ 32 }
         requires counts { IsWithin (lexed_of self.old) at }
         requires names { AreNoWords (lexed_of self.old).names }
+        ensures known { IfOk result (λ found. found ≡ known_at (lexed_of self.old).names (slice_index bytes.now at) (drop (at + 1) bytes.now)) }
         ensures lexeme { IfOk result (λ found. IfSome found (λ more.
             Some (Lexeme.Name, more) ≡ lexeme_at (slice_index bytes.now at) (drop (at + 1) bytes.now))) }
         ensures within { IfOk result (λ found. IfSome found (λ more. at + 1 + more ≤ length bytes.now)) }

@@ -1,4 +1,6 @@
 //! Why there is no script.
+ghost use Rattle.std.specs.Prelude.{◌≡◌, Some};
+ghost use Rattle.jd_syntax.specs.Kinds.{kind_name};
 
 use std::fmt;
 use thiserror::Error;
@@ -20,16 +22,27 @@ pub enum ParseKind {
     TooDeep = 6,
 }
 
-impl fmt::Display for ParseKind {
-    fn fmt<W: fmt::Write>(&self, f: &mut fmt::Formatter<W>) -> fmt::Result {
-        f.write_str(match self {
+impl ParseKind {
+    /// The name of the kind, as the line of a refusal has it.
+    pub fn name(self) -> &'static str
+        ensures { result.now ≡ kind_name self }
+    {
+        match self {
             ParseKind::Bytes => "Bytes",
             ParseKind::Token => "Token",
             ParseKind::Form => "Form",
             ParseKind::WideNumber => "WideNumber",
             ParseKind::TooLong => "TooLong",
             ParseKind::TooDeep => "TooDeep",
-        })
+        }
+    }
+}
+
+impl fmt::Display for ParseKind {
+    ghost output = { λ kind. Some (kind_name kind) };
+
+    fn fmt<W: fmt::Write>(&self, f: &mut fmt::Formatter<W>) -> fmt::Result {
+        f.write_str(self.name())
     }
 }
 

@@ -5,7 +5,7 @@ use Rattle.jd_lexer.specs.Lexing.{lexed_of}
 use Rattle.jd_lexer.specs.Words.{word_kind}
 use Rattle.jd_lexer.specs.Names.{AreNoWords}
 use Rattle.jd_lexer.proofs.Scan.{scan_gap, scan_token, within_more, within_later}
-use Rattle.jd_lexer.proofs.Known.{read_is_no_word, with_lexeme_no_words}
+use Rattle.jd_lexer.proofs.Known.{read_is_no_word, with_lexeme_no_words, piece_len}
 use Rattle.jd_lexer.proofs.lexer.lex.Goals as goal
 
 pub loop-at-preserved-in-Some : goal.loop-at-preserved-in-Some
@@ -53,3 +53,11 @@ loop-at-preserved c =
           (c.in_default.ensures.gap ∙ ap (λ b. gap_at b (get_or c.args.bytes.now c.loop-at.at 0) (drop (c.loop-at.at + 1) c.args.bytes.now)) c.is_end_blank.ensures)
           read text added c.loop-at.invariant.told;
     }
+
+pub add-requires-clause-within : goal.add-requires-clause-within
+add-requires-clause-within c =
+    let end = c.loop-at.at + 1 + c.in-Some-3.more in
+    let within : end ≤ length c.args.bytes.now = search rules in
+    let ends : c.loop-at.at + length c.slice.result.now ≡ end =
+    ap (λ text. c.loop-at.at + length text) c.slice.ensures ∙ piece_len c.args.bytes.now c.loop-at.at end (omega arith) within in
+    omega (arith, ends, within, c.requires)
