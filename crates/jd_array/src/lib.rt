@@ -12,8 +12,6 @@ mod fold;
 mod index;
 mod pieces;
 mod slices;
-#[cfg(test)]
-mod tests;
 
 pub use fault::ArrayFault;
 pub use fold::{Reducer, fold_op, reducer_is_commutative};

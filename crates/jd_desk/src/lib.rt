@@ -19,6 +19,3 @@ pub use desk::{Desk, UnnamedDesk};
 pub use logged::Logged;
 pub use rule::SHARES;
 pub use seat::{DeskName, Holding, Seat};
-
-#[cfg(test)]
-mod tests;

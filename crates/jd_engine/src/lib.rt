@@ -7,12 +7,11 @@
 #![tactic(auto)]
 
 mod load;
-mod report;
+mod reporting;
 mod simulate;
 mod status;
-#[cfg(test)]
-mod tests;
 mod words;
 
+pub use reporting::report;
 pub use simulate::sim;
-pub use status::Status;
+pub use status::{Ending, Status};

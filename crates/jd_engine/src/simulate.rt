@@ -10,7 +10,7 @@ ghost use Rattle.jd_engine.specs.Headline.{Runs, RunsOn, IsQuiet, IsWhole, EndsI
 ghost use Rattle.jd_engine.specs.declared.status.Ending.{Ending as TheEnding};
 
 use crate::load::load;
-use crate::report::report;
+use crate::reporting::report;
 use crate::status::{Ending, Status};
 use crate::words::command;
 use jd_model::{Ending as MachineEnding, Start};

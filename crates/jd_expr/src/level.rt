@@ -1,7 +1,8 @@
 //! One level of an expression, where a function value evaluates the parts below it. So each construct is proved by
 //! itself, and the recursion is one function.
-ghost use Rattle.std.specs.Prelude.{◌≡◌, ◌∷◌, []};
-ghost use Rattle.jd_expr.specs.Action.{Gives};
+ghost use Rattle.std.specs.Prelude.{◌≡◌, ◌++◌, ◌∷◌, []};
+ghost use Rattle.jd_expr.specs.Action.{Gives, and_then, lift, pure};
+ghost use Rattle.jd_expr.specs.Arithmetic.{builtin};
 ghost use Rattle.jd_expr.specs.Meaning as spec;
 ghost use Rattle.jd_expr.specs.Meaning.{meaning};
 ghost use Rattle.jd_expr.specs.Nests.{Evaluates};
@@ -31,6 +32,22 @@ impl<E: Fn(Global, u64, u64, &Env, &Expr, &mut Budget) -> Result<Value, Stop>> L
         (self.eval)(self.alloc, self.fuel, calls, vars, x, budget)
     }
 
+    /// The values that are there, and behind them that of the expression.
+    fn with_value(
+        &self,
+        calls: u64,
+        vars: &Env,
+        mut done: Items<Value>,
+        x: &Expr,
+        budget: &mut Budget,
+    ) -> Result<Items<Value>, Stop>
+        requires { Evaluates self.now.fuel (E.pre self.now.eval) (E.post self.now.eval) }
+        ensures { Gives (and_then ((meaning self.now.fuel).eval calls vars.now x.now budget.old) (λ value. pure (done ++ value ∷ []))) result budget.new }
+    {
+        done.push(self.value(calls, vars, x, budget)?)?;
+        Ok(done)
+    }
+
     /// The values of the expressions, from left to right.
     #[tactic(auto, unfolding(crate::specs::Meaning::each))]
     pub fn each(
@@ -45,7 +62,7 @@ impl<E: Fn(Global, u64, u64, &Env, &Expr, &mut Budget) -> Result<Value, Stop>> L
     {
         let mut done = Items::new(self.alloc);
         while let [x, rest @ ..] = all {
-            done.push(self.value(calls, vars, x, budget)?)?;
+            done = self.with_value(calls, vars, done, x, budget)?;
             all = rest;
         }
         Ok(done)
@@ -81,11 +98,42 @@ impl<E: Fn(Global, u64, u64, &Env, &Expr, &mut Budget) -> Result<Value, Stop>> L
         ensures { Gives (spec.applied (meaning self.now.fuel) calls vars.now function (x.now ∷ y.now ∷ []) budget.old) result budget.new }
     {
         let a = self.value(calls, vars, x, budget)?;
+        self.applied_to_second(calls, vars, function, &a, y, budget)
+    }
+
+    /// The second argument, behind the value of the first, then the function.
+    fn applied_to_second(
+        &self,
+        calls: u64,
+        vars: &Env,
+        function: Builtin,
+        a: &Value,
+        y: &Expr,
+        budget: &mut Budget,
+    ) -> Result<Value, Stop>
+        requires { Evaluates self.now.fuel (E.pre self.now.eval) (E.post self.now.eval) }
+        ensures { Gives (and_then ((meaning self.now.fuel).eval calls vars.now y.now budget.old) (λ b. lift (builtin function (a.now ∷ b ∷ [])))) result budget.new }
+    {
         let b = self.value(calls, vars, y, budget)?;
-        builtin_two(function, &a, &b).map_err(Stop::Faulted)
+        builtin_two(function, a, &b).map_err(Stop::Faulted)
     }
 
     #[tactic(auto, unfolding(crate::specs::Meaning::applied))]
+    fn applied_to_all(
+        &self,
+        calls: u64,
+        vars: &Env,
+        function: Builtin,
+        args: &[Expr],
+        budget: &mut Budget,
+    ) -> Result<Value, Stop>
+        requires { Evaluates self.now.fuel (E.pre self.now.eval) (E.post self.now.eval) }
+        ensures { Gives (spec.applied (meaning self.now.fuel) calls vars.now function args.now budget.old) result budget.new }
+    {
+        let values = self.each(calls, vars, args, budget)?;
+        apply_builtin(function, values.as_slice()).map_err(Stop::Faulted)
+    }
+
     fn applied(
         &self,
         calls: u64,
@@ -100,10 +148,7 @@ impl<E: Fn(Global, u64, u64, &Env, &Expr, &mut Budget) -> Result<Value, Stop>> L
         match args {
             [x] => self.applied_to_one(calls, vars, function, x, budget),
             [x, y] => self.applied_to_two(calls, vars, function, x, y, budget),
-            _ => {
-                let values = self.each(calls, vars, args, budget)?;
-                apply_builtin(function, values.as_slice()).map_err(Stop::Faulted)
-            }
+            _ => self.applied_to_all(calls, vars, function, args, budget),
         }
     }
 

@@ -13,8 +13,6 @@ mod laws;
 mod level;
 mod named;
 mod stop;
-#[cfg(test)]
-mod tests;
 mod variable;
 
 pub use arithmetic::apply_builtin;

@@ -11,13 +11,14 @@ use Rattle.jd_grammar.specs.Machine.{with_item, is_closer, item_step, row_end, c
 use Rattle.jd_grammar.proofs.Invariant.{put_fixed, put_frames, put_state, IsHold, IsFixed, AreFrames, IsState, MayStep, may_if, both}
 use Rattle.jd_grammar.proofs.RowFacts.{even_cell, go_begun, single_cells, single_even, many_with_cell}
 use Rattle.jd_grammar.proofs.RowSplit.{put_with_cell, are_with_cell, IsSplit, split, row_chain}
+use Rattle.jd_grammar.proofs.Absurd.{no}
 
 pub closer_kind : (b : Bracket) (k : Kind) → is_closer b k ≡ true → k ≡ closes b
 closer_kind grouped CloseParen h = refl
 closer_kind (called f) CloseParen h = refl
 closer_kind itemed CloseBracket h = refl
 closer_kind (indexed f) CloseBracket h = refl
-closer_kind _ _ h = cc
+closer_kind _ _ h = no h
 
 pub put_with_item : (es : Items) (e : Syntax) (t : Token) (rest : List Token) → put_items (with_item es e t) rest ≡ put_items es (put e (t ∷ rest))
 put_with_item none e t rest = refl
@@ -86,7 +87,7 @@ close_ok s b o es t fs e w v u h =
 leaf_kind : (k : Kind) → (if is_number k then true else is_name k) ≡ true → is_leaf k ≡ true
 leaf_kind (Number n) h = refl
 leaf_kind (Name n) h = refl
-leaf_kind _ h = cc
+leaf_kind _ h = no h
 
 -- the row of an expression, and one more atom
 pub committed : (o : Token) (e : Syntax) (q : Option Token) (a : Syntax) (fs : List Frame) → o.kind ≡ OpenBracket → IsSplit false e → IsAt true false 9 a → IsTrue (is_atom a) → IsTrue (is_spaced a)

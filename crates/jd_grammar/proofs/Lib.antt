@@ -1,3 +1,4 @@
+pub mod Absurd
 pub mod RowFacts
 pub mod Invariant
 pub mod RowSplit

@@ -13,6 +13,7 @@ use Rattle.jd_grammar.proofs.Close.{le_of, touches_of}
 use Rattle.jd_grammar.proofs.RowFacts.{both, eq_of, even_cell, even_row, first_row, same_begun, many_with_cell}
 use Rattle.jd_grammar.proofs.RowSplit.{put_with_cell, are_with_cell, tight_leaf}
 use Rattle.jd_grammar.proofs.BracketSteps.{Stand}
+use Rattle.jd_grammar.proofs.Absurd.{no}
 
 pub middle_ok : (s : State) (c : Syntax) (q t : Token) (fs : List Frame) (e : Syntax) → IsFixed fs (in_middle c q) → AreFrames fs → IsAt false false 3 e
     → Stand s t (in_middle c q) fs e → MayStep t s (middle_step c q t.kind t fs e)
@@ -61,7 +62,7 @@ group_ok s hold p t fs e w v u h = elim t.kind as (λ k. t.kind ≡ k → MaySte
 
 number_leaf : (k : Kind) → is_number k ≡ true → is_leaf k ≡ true
 number_leaf (Number n) h = refl
-number_leaf _ h = cc
+number_leaf _ h = no h
 
 leaf_filled : (hold : Hold) (t : Token) (fs : List Frame) → IsHold fs hold → IsTrue (takes hold t) → AreFrames fs → is_leaf t.kind ≡ true → IsTrue (is_atom (leaf t)) → IsStep t (await fs (atoms hold)) (filled hold (leaf t) fs)
 leaf_filled hold t fs w h v k i =

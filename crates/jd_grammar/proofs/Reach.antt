@@ -17,6 +17,7 @@ use Rattle.jd_grammar.proofs.RowFacts.{prefix_begun, prefix_goes}
 use Rattle.jd_grammar.proofs.RowSplit.{level_plain}
 use Rattle.jd_grammar.proofs.RowSteps.{whole as shape_whole}
 use Rattle.jd_grammar.proofs.RowSteps.{joined_none, joined_cell, joined_row, fits, spawn_fits, cell_fits, row_fits, next_row_runs, rows_end_runs, Shape, bare, behind_minus, difference, frames_of, last_of, with_call, call_chain, call_first, call_cells, call_runs, minus_chain, difference_chain, row_end_runs, second_runs, first_row_runs, minus_runs, number_runs}
+use Rattle.jd_grammar.proofs.Absurd.{no}
 
 -- After the tokens of e the machine has e, but for what a token of the next strength ends.
 pub record IsReached (m : Follows) (n : ℕ) (fs : List Frame) (e : Syntax) (rest : List Token) : Type 0 where
@@ -112,13 +113,13 @@ number_name t h = number t.kind t.spaced h
     number : (k : Kind) (b : Bool) → (if b then false else (if is_number k then true else is_least k b)) ≡ true → IsTrue (if is_leaf k then true else is_least k b)
     number (Number n) b h = refl
     number (Wide g) false h = h
-    number (Wide g) true h = cc
-    number _ true h = cc
-    number _ false h = cc
+    number (Wide g) true h = no h
+    number _ true h = no h
+    number _ false h = no h
 
 both : (a b : Bool) → (a && b) ≡ true → (a ≡ true) × (b ≡ true)
 both true b h = (refl, h)
-both false b h = cc
+both false b h = no h
 
 -- an item, and the token behind it
 item_runs : (m : Follows) (e : Syntax) (b : Bracket) (o : Token) (es : Items) (fs : List Frame) → IsAt true false (item_level b) e → (t : Token) → is_ender t.kind ≡ true → (d : State)
@@ -154,11 +155,11 @@ RunGenerators m o e ds c fs (generator t n i x gens) rest = m.run (n ∷ i ∷ p
 
 word_leaf : (w : Word) (k : Kind) → is_word w k ≡ true → is_leaf k ≡ true
 word_leaf w (Name n) h = refl
-word_leaf w _ h = cc
+word_leaf w _ h = no h
 
 name_leaf : (k : Kind) → is_name k ≡ true → is_leaf k ≡ true
 name_leaf (Name n) h = refl
-name_leaf _ h = cc
+name_leaf _ h = no h
 
 leaf_runs : (m : Follows) (t : Token) (fs : List Frame) (rest : List Token) → is_leaf t.kind ≡ true → m.run (t ∷ rest) (want fs) ≡ m.run rest (have fs (leaf t))
 leaf_runs m t fs rest k = m.goes t rest (want fs) (have fs (leaf t)) (leaf_steps t fs (ap (λ b. if b then true else negated fs && is_least t.kind t.spaced) k))
@@ -188,30 +189,30 @@ atom_chain t h = at t.kind h
     at : (k : Kind) → (if is_number k then true else is_name k) ≡ true → (if is_number k then true else (if is_name k then true else is_least k t.spaced)) ≡ true
     at (Number n) h = refl
     at (Name n) h = refl
-    at _ h = cc
+    at _ h = no h
 
 atom_many : (a : Syntax) (cells : Cells) → IsTrue (is_atom a) → IsTrue (are_many cells) → IsTrue (are_many (joined (cells_of a) cells))
 atom_many (leaf t) cells i m = m
 atom_many (ending (unary t) (leaf n)) cells i m = m
 atom_many (bracket grouped o none (just e) c) cells i m = m
-atom_many _ cells i m = cc
+atom_many _ cells i m = no i
 
 atom_cells : (a : Syntax) (cells : Cells) → IsTrue (is_atom a) → joined (cells_of a) cells ≡ cells
 atom_cells (leaf t) cells i = refl
 atom_cells (ending (unary t) (leaf n)) cells i = refl
 atom_cells (bracket grouped o none (just e) c) cells i = refl
-atom_cells _ cells i = cc
+atom_cells _ cells i = no i
 
 atom_matrix : (o : Token) (a : Syntax) (cells : Cells) (c : Token) → IsTrue (is_atom a) → matrix o (first_of a) (joined (cells_of a) cells) c ≡ matrix o a cells c
 atom_matrix o (leaf t) cells c i = refl
 atom_matrix o (ending (unary t) (leaf n)) cells c i = refl
 atom_matrix o (bracket grouped p none (just e) z) cells c i = refl
-atom_matrix o _ cells c i = cc
+atom_matrix o _ cells c i = no i
 
 mutual
   pub reach : (m : Follows) (n : ℕ) (e : Syntax) (fs : List Frame) → IsAt (ranges fs) (negated fs) n e → is_sign e ≡ false → demand fs ≤ n → (rest : List Token) → IsReached m n fs e rest
   reach m n (leaf t) fs w g d rest = record { frames = fs; operand = leaf t; runs = m.goes t rest (want fs) (have fs (leaf t)) (leaf_steps t fs w); closes = λ p h k. refl; same = refl; exact = λ h. refl }
-  reach m n (sign t) fs w g d rest = cc
+  reach m n (sign t) fs w g d rest = no (sym g)
   reach m n (ending h e) fs w g d rest =
       let r = reach m (asks h) e (open_end h ∷ fs) w.2 (no_sign (ranges fs) (is_negation h) (asks h) e w.2 (asks_ge h)) (omega arith) rest in
       record {
@@ -311,7 +312,7 @@ mutual
       let r = reach m 1 e (fixed (in_group hold o) ∷ fs) w.3 (no_sign true false 1 e w.3 (omega arith)) (omega arith) (c ∷ rest) in
       open_atom m hold o fs (put e (c ∷ rest)) w.1 f
       ∙ ends m 1 (in_group hold o) fs e c rest (filled hold (bracket grouped o none (just e) c) fs) r (ap is_ender w.4 ∙ closer_ends grouped) (ap (λ k. group_step hold o k c fs e) w.4)
-  reach_atom m _ hold fs w i f rest = cc
+  reach_atom m _ hold fs w i f rest = no i
 
   -- the first atom of a matrix is read as an expression
   reach_first : (m : Follows) (a : Syntax) (fs : List Frame) (o : Token) → IsAt true false 9 a → IsTrue (is_atom a) → (rest : List Token) (target : m.to)
@@ -331,7 +332,7 @@ mutual
       ∙ ends m 1 (in_bracket grouped p none) (fixed (in_bracket itemed o none) ∷ fs) y z rest (have (fixed (in_bracket itemed o none) ∷ fs) (bracket grouped p none (just y) z)) r
       (ap is_ender w.4 ∙ closer_ends grouped) (close_steps grouped p none z (fixed (in_bracket itemed o none) ∷ fs) y w.4 refl w.6)
       ∙ go (bare (bracket grouped p none (just y) z)) refl refl
-  reach_first m _ fs o w i rest target go = cc
+  reach_first m _ fs o w i rest target go = no i
 
   -- what the rest of a matrix makes of the atoms that were read as an expression
   reach_chain : (m : Follows) (cells : Cells) (s : Shape) (o c : Token) (fs : List Frame) → AreCells cells → c.kind ≡ CloseBracket → is_chain (shape_whole s) ≡ true
@@ -377,7 +378,7 @@ mutual
       ∙ reach_chain m cells (with_call s p x z) o c fs w.3 k (call_chain s p x z q w.2 (level_plain true false 1 x (omega arith) w.0.3)) (subst (λ ds. IsTrue (are_many ds)) (sym j) y) (ap is_full j ∙ f) rest
       ∙ ap (λ a. m.run rest (have fs (matrix o a (joined (cells_of (shape_whole (with_call s p x z))) cells) c))) (call_first s p x z)
       ∙ ap (λ ds. m.run rest (have fs (matrix o (first_of (shape_whole s)) ds c))) j
-  reach_chain m (cell _ cells) s o c fs w k q y f rest = let h = w.1 in cc
+  reach_chain m (cell _ cells) s o c fs w k q y f rest = no w.1
   reach_chain m (row t x cells) s o c fs w k q y f rest =
       let j = joined_row (cells_of (shape_whole s)) t x cells in
       let g : is_full (joined (with_cell (cells_of (shape_whole s)) (Some t) x) cells) ≡ true = ap is_full j ∙ f in

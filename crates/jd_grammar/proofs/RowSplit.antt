@@ -9,6 +9,7 @@ use Rattle.jd_grammar.specs.Rows.{begins_tight, is_plain, is_chain, is_long, is_
 use Rattle.jd_grammar.proofs.Invariant.{put_pending}
 use Rattle.jd_grammar.proofs.Close.{weaken, touches_of}
 use Rattle.jd_grammar.proofs.RowFacts.{both, many_with_cell, many_joined}
+use Rattle.jd_grammar.proofs.Absurd.{no}
 
 -- ---- cells
 
@@ -43,13 +44,13 @@ are_joined (row t a cells) ds w v = (w.0, w.1, w.2, are_joined cells ds w.3 v)
 
 pub plain_level : (r g : Bool) (n : ℕ) (e : Syntax) → is_plain e ≡ true → IsAt r g n e → IsAt r g 1 e
 plain_level r g n (leaf t) p w = w
-plain_level r g n (sign t) p w = cc
+plain_level r g n (sign t) p w = no p
 plain_level r g n (ending (unary t) e) p w = (omega arith, w.1, w.2)
 plain_level r g n (ending (binary l t) e) p w = (w.1.0, w.1, w.2)
 plain_level r g n (ending (choice c q x t) e) p w = (omega arith, w.1, w.2)
 plain_level r g n (ending (lambda ns t) e) p w = (omega arith, w.1, w.2)
 plain_level r g n (ending (spawn t a) e) p w = (omega arith, w.1, w.2)
-plain_level r g n (ending (keyword v t) e) p w = cc
+plain_level r g n (ending (keyword v t) e) p w = no p
 plain_level r g n (bracket b o es last c) p w = w
 plain_level r g n (matrix o a cells c) p w = w
 plain_level r g n (comprehension o e gens c) p w = w
@@ -79,14 +80,14 @@ pub record IsSplit (g : Bool) (e : Syntax) : Type 0 where
 
 pub minus_of : (k : Kind) → is_minus k ≡ true → k ≡ Minus
 minus_of Minus h = refl
-minus_of _ h = cc
+minus_of _ h = no h
 
 tight_kind : (k : Kind) (b : Bool) → (if b then false else (if is_number k then true else is_least k b)) ≡ true → IsTrue (if is_leaf k then true else is_least k b)
 tight_kind (Number n) b h = refl
 tight_kind (Wide g) false h = h
-tight_kind (Wide g) true h = cc
-tight_kind _ true h = cc
-tight_kind _ false h = cc
+tight_kind (Wide g) true h = no h
+tight_kind _ true h = no h
+tight_kind _ false h = no h
 
 -- a number behind a `-`, with no blank between them
 pub tight_leaf : (t n : Token) → t.kind ≡ Minus → is_tight n ≡ true → IsAt true false 9 (ending (unary t) (leaf n))
@@ -100,18 +101,18 @@ pub tight_first : (t : Token) (e : Syntax) → t.kind ≡ Minus → begins_tight
 tight_first t (leaf n) k b h = record { negated = tight_leaf t n k b; atom = ap (λ x. is_minus x && is_tight n) k ∙ b }
 tight_first t (bracket (called f) o none (just x) c) k b h = let d = both (o.spaced && is_plain x) (is_chain f) h in
     let v = tight_first t f k b d.1 in record { negated = v.negated; atom = v.atom }
-tight_first t (bracket (called f) o none nothing c) k b h = cc
-tight_first t (bracket (called f) o (more _ _ _) x c) k b h = cc
-tight_first t (bracket grouped _ _ _ _) k b h = cc
-tight_first t (bracket itemed _ _ _ _) k b h = cc
-tight_first t (bracket (indexed _) _ _ _ _) k b h = cc
-tight_first t _ k b h = cc
+tight_first t (bracket (called f) o none nothing c) k b h = no h
+tight_first t (bracket (called f) o (more _ _ _) x c) k b h = no h
+tight_first t (bracket grouped _ _ _ _) k b h = no b
+tight_first t (bracket itemed _ _ _ _) k b h = no b
+tight_first t (bracket (indexed _) _ _ _ _) k b h = no b
+tight_first t _ k b h = no b
 
 leaf_atom : (k : Kind) (b : Bool) → IsTrue (if is_leaf k then true else false && is_least k b) → (if is_number k then true else (if is_name k then true else is_least k b)) ≡ true → IsTrue (if is_number k then true else is_name k)
 leaf_atom (Number n) b w h = refl
 leaf_atom (Name n) b w h = refl
-leaf_atom (Wide g) b w h = cc
-leaf_atom _ b w h = cc
+leaf_atom (Wide g) b w h = no w
+leaf_atom _ b w h = no h
 
 pub split : (e : Syntax) (r g : Bool) (m : ℕ) → is_chain e ≡ true → IsAt r g m e → IsSplit g e
 split (leaf t) r g m h w = record {
@@ -155,33 +156,33 @@ split (bracket (called f) o none (just x) c) r g m h w =
       cells = are_with_cell (cells_of f) None (bracket grouped o none (just x) c) v.cells (tt, w.1, tt, u, w.4, refl, touches_of true false 1 x c u (omega arith)) refl d.0;
       tokens = λ rest. v.tokens (o ∷ put x (c ∷ rest)) ∙ ap (put (first_of f)) (sym (put_with_cell (cells_of f) None (bracket grouped o none (just x) c) rest));
     }
-split (bracket grouped o none nothing c) r g m h w = cc
-split (bracket grouped o (more _ _ _) x c) r g m h w = cc
-split (bracket (called f) o none nothing c) r g m h w = cc
-split (bracket (called f) o (more _ _ _) x c) r g m h w = cc
-split (bracket itemed o es x c) r g m h w = cc
-split (bracket (indexed f) o es x c) r g m h w = cc
-split (ending (choice _ _ _ _) e) r g m h w = cc
-split (ending (lambda _ _) e) r g m h w = cc
-split (ending (spawn _ _) e) r g m h w = cc
-split (ending (keyword _ _) e) r g m h w = cc
-split (sign t) r g m h w = cc
-split (matrix _ _ _ _) r g m h w = cc
-split (comprehension _ _ _ _) r g m h w = cc
-split (remote _ _ _ _ _ _ _ _ _) r g m h w = cc
+split (bracket grouped o none nothing c) r g m h w = no h
+split (bracket grouped o (more _ _ _) x c) r g m h w = no h
+split (bracket (called f) o none nothing c) r g m h w = no h
+split (bracket (called f) o (more _ _ _) x c) r g m h w = no h
+split (bracket itemed o es x c) r g m h w = no h
+split (bracket (indexed f) o es x c) r g m h w = no h
+split (ending (choice _ _ _ _) e) r g m h w = no h
+split (ending (lambda _ _) e) r g m h w = no h
+split (ending (spawn _ _) e) r g m h w = no h
+split (ending (keyword _ _) e) r g m h w = no h
+split (sign t) r g m h w = no h
+split (matrix _ _ _ _) r g m h w = no h
+split (comprehension _ _ _ _) r g m h w = no h
+split (remote _ _ _ _ _ _ _ _ _) r g m h w = no h
 
 long_many : (e : Syntax) → is_long e ≡ true → IsTrue (are_many (cells_of e))
 long_many (ending (unary t) e) h = long_many e h
 long_many (ending (binary l t) e) h = many_joined (with_cell (cells_of l) None (ending (unary t) (first_of e))) (cells_of e) (many_with_cell (cells_of l) None (ending (unary t) (first_of e)))
 long_many (bracket (called f) o es last c) h = many_with_cell (cells_of f) None (bracket grouped o es last c)
-long_many (ending (choice _ _ _ _) e) h = cc
-long_many (ending (lambda _ _) e) h = cc
-long_many (ending (spawn _ _) e) h = cc
-long_many (ending (keyword _ _) e) h = cc
-long_many (bracket grouped _ _ _ _) h = cc
-long_many (bracket itemed _ _ _ _) h = cc
-long_many (bracket (indexed _) _ _ _ _) h = cc
-long_many _ h = cc
+long_many (ending (choice _ _ _ _) e) h = no h
+long_many (ending (lambda _ _) e) h = no h
+long_many (ending (spawn _ _) e) h = no h
+long_many (ending (keyword _ _) e) h = no h
+long_many (bracket grouped _ _ _ _) h = no h
+long_many (bracket itemed _ _ _ _) h = no h
+long_many (bracket (indexed _) _ _ _ _) h = no h
+long_many _ h = no h
 
 pub row_chain : (e : Syntax) → is_row e ≡ true → (is_chain e ≡ true) × IsTrue (are_many (cells_of e))
 row_chain e h = let b = both (is_chain e) (is_long e) h in (b.0, long_many e b.1)

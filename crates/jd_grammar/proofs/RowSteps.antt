@@ -11,6 +11,7 @@ use Rattle.jd_grammar.specs.Machine.{close, is_closer, row_end, takes, atoms_ste
 use Rattle.jd_grammar.proofs.Close.{test_le}
 use Rattle.jd_grammar.proofs.RowFacts.{both, and_true, same_begun}
 use Rattle.jd_grammar.proofs.Steps.{Follows, if_some}
+use Rattle.jd_grammar.proofs.Absurd.{no}
 
 -- ---- lists of cells
 
@@ -46,19 +47,19 @@ pub spawn_fits : (s : Token) (a : Syntax) → is_atom a ≡ true → fits (spawn
 spawn_fits s (leaf t) h = refl
 spawn_fits s (ending (unary t) (leaf n)) h = refl
 spawn_fits s (bracket grouped o none (just e) c) h = refl
-spawn_fits s _ h = cc
+spawn_fits s _ h = no h
 
 pub cell_fits : (o : Token) (x : Syntax) (cells : Cells) (a : Syntax) → is_atom a ≡ true → is_spaced a ≡ true → are_begun (with_cell cells None a) ≡ true → fits (rows o x cells None) a ≡ true
 cell_fits o x cells (leaf t) i z h = and_true t.spaced (are_begun (with_cell cells None (leaf t))) z h
 cell_fits o x cells (ending (unary t) (leaf n)) i z h = and_true t.spaced (are_begun (with_cell cells None (leaf t))) z (same_begun cells None (leaf t) (ending (unary t) (leaf n)) ∙ h)
 cell_fits o x cells (bracket grouped p none (just e) c) i z h = and_true p.spaced (are_begun (with_cell cells None (leaf p))) z (same_begun cells None (leaf p) (bracket grouped p none (just e) c) ∙ h)
-cell_fits o x cells _ i z h = cc
+cell_fits o x cells _ i z h = no i
 
 pub row_fits : (o : Token) (x : Syntax) (cells : Cells) (t : Token) (a : Syntax) → is_atom a ≡ true → are_begun (with_cell cells (Some t) a) ≡ true → fits (rows o x cells (Some t)) a ≡ true
 row_fits o x cells t (leaf u) i h = h
 row_fits o x cells t (ending (unary u) (leaf n)) i h = same_begun cells (Some t) (leaf u) (ending (unary u) (leaf n)) ∙ h
 row_fits o x cells t (bracket grouped p none (just e) c) i h = same_begun cells (Some t) (leaf p) (bracket grouped p none (just e) c) ∙ h
-row_fits o x cells t _ i h = cc
+row_fits o x cells t _ i h = no i
 
 pub next_row_runs : (m : Follows) (o : Token) (x : Syntax) (cells : Cells) (t : Token) (fs : List Frame) (rest : List Token) → t.kind ≡ Semicolon → may_go_on cells ≡ true
     → m.run (t ∷ rest) (await fs (atoms (rows o x cells None))) ≡ m.run rest (await fs (atoms (rows o x cells (Some t))))
@@ -99,7 +100,7 @@ with_call (difference l t x) p y z = difference l t (bracket (called x) p none (
 
 minus_strength : (k : Kind) → is_minus k ≡ true → strength k ≡ 7
 minus_strength Minus h = refl
-minus_strength _ h = cc
+minus_strength _ h = no h
 
 -- a chain closes to itself, at a `-` too
 pub shape_closes : (p : ℕ) (s : Shape) (o : Token) (fs : List Frame) → p ≤ 7 → is_chain (whole s) ≡ true
@@ -149,9 +150,9 @@ tight_chain n h = at n.kind n.spaced h
     at (Number n) b h = refl
     at (Name n) b h = refl
     at (Wide g) false h = h
-    at (Wide g) true h = cc
-    at _ true h = cc
-    at _ false h = cc
+    at (Wide g) true h = no h
+    at _ true h = no h
+    at _ false h = no h
 
 pub minus_chain : (t n : Token) → t.kind ≡ Minus → is_tight n ≡ true → is_chain (ending (unary t) (leaf n)) ≡ true
 minus_chain t n k h = and_true (is_minus t.kind) (is_tight n && is_chain (leaf n)) (ap is_minus k) (and_true (is_tight n) (is_chain (leaf n)) h (tight_chain n h))
@@ -161,26 +162,26 @@ difference_chain e t n c k z h = and_true (is_minus t.kind && t.spaced) ((is_tig
     (and_true (is_tight n && is_chain (leaf n)) (is_chain e) (and_true (is_tight n) (is_chain (leaf n)) h (tight_chain n h)) c)
 
 many_long : (e : Syntax) → is_chain e ≡ true → IsTrue (are_many (cells_of e)) → is_long e ≡ true
-many_long (leaf t) h m = cc
+many_long (leaf t) h m = no m
 many_long (ending (unary t) e) h m = many_long e (both (begins_tight e) (is_chain e) (both (is_minus t.kind) (begins_tight e && is_chain e) h).1).1 m
 many_long (ending (binary l t) e) h m = refl
-many_long (bracket grouped o none (just e) c) h m = cc
+many_long (bracket grouped o none (just e) c) h m = no m
 many_long (bracket (called f) o es last c) h m = refl
-many_long (bracket grouped o none nothing c) h m = cc
-many_long (bracket grouped o (more _ _ _) last c) h m = cc
-many_long (bracket itemed _ _ _ _) h m = cc
-many_long (bracket (indexed _) _ _ _ _) h m = cc
-many_long (ending (choice _ _ _ _) e) h m = cc
-many_long (ending (lambda _ _) e) h m = cc
-many_long (ending (spawn _ _) e) h m = cc
-many_long (ending (keyword _ _) e) h m = cc
-many_long _ h m = cc
+many_long (bracket grouped o none nothing c) h m = no h
+many_long (bracket grouped o (more _ _ _) last c) h m = no h
+many_long (bracket itemed _ _ _ _) h m = no h
+many_long (bracket (indexed _) _ _ _ _) h m = no h
+many_long (ending (choice _ _ _ _) e) h m = no h
+many_long (ending (lambda _ _) e) h m = no h
+many_long (ending (spawn _ _) e) h m = no h
+many_long (ending (keyword _ _) e) h m = no h
+many_long _ h m = no h
 
 chain_row : (e : Syntax) → is_chain e ≡ true → IsTrue (are_many (cells_of e)) → is_row e ≡ true
 chain_row e h m = and_true (is_chain e) (is_long e) h (many_long e h m)
 
 chain_touches : (e : Syntax) (c : Token) → is_chain e ≡ true → touches e c ≡ true
-chain_touches (sign t) c h = cc
+chain_touches (sign t) c h = no h
 chain_touches _ c h = refl
 
 -- ---- the ends of a first row
@@ -205,7 +206,7 @@ second_at (Number n) s o t fs h q z g = ap (at_end (Number n) t) (shape_closes 0
 second_at (Name n) s o t fs h q z g = ap (at_end (Name n) t) (shape_closes 0 s o fs (omega arith) q)
     ∙ if_some ((t.spaced && is_chain (whole s)) && are_begun (with_cell (cells_of (whole s)) None (leaf t))) (await fs (atoms (rows o (first_of (whole s)) (with_cell (cells_of (whole s)) None (leaf t)) None)))
     (and_true (t.spaced && is_chain (whole s)) (are_begun (with_cell (cells_of (whole s)) None (leaf t))) (and_true t.spaced (is_chain (whole s)) z q) g)
-second_at _ s o t fs h q z g = cc
+second_at _ s o t fs h q z g = no h
 
 pub second_runs : (m : Follows) (s : Shape) (o t : Token) (fs : List Frame) (rest : List Token) → is_atom (leaf t) ≡ true → is_chain (whole s) ≡ true → t.spaced ≡ true → are_begun (with_cell (cells_of (whole s)) None (leaf t)) ≡ true
     → m.run (t ∷ rest) (have (frames_of s (fixed (in_bracket itemed o none) ∷ fs)) (last_of s)) ≡ m.run rest (await fs (atoms (rows o (first_of (whole s)) (with_cell (cells_of (whole s)) None (leaf t)) None)))
@@ -250,9 +251,8 @@ number_runs m e o t n fs rest target k z c h g a b = elim n.kind as (λ x. n.kin
     cs = with_cell (cells_of e) None (ending (unary t) (leaf n))
 
     least : (v : Bool) (k : Kind) (b : Bool) → k ≡ Wide v → (if b then false else (if is_number k then true else is_least k b)) ≡ true → is_least k b ≡ true
-    least v (Wide w) false x h = h
-    least v (Wide w) true x h = cc
-    least v _ b x h = cc
+    least v k true x h = no h
+    least v k false x h = ap (λ y. is_least y false) x ∙ sym (ap (λ y. if is_number y then true else is_least y false) x) ∙ h
 
     never : (b : Bool) → (if b then false else false) ≡ true → ⊥
     never true y = cc

@@ -14,6 +14,7 @@ use Rattle.jd_grammar.proofs.Invariant.{IsState}
 use Rattle.jd_grammar.specs.Shortest.{token, zero_leaf, a_name, whole, to_end}
 use Rattle.jd_grammar.proofs.Finish.{whole_ok, whole_put}
 use Rattle.jd_grammar.proofs.Context.{put_outer, put_context, put_owner, put_mode, put_config, AreOuter, IsBottom, IsOwner, are_some, IsAwaited, IsMode, IsConfig}
+use Rattle.jd_grammar.proofs.Absurd.{no}
 
 -- ---- a statement's end
 
@@ -197,11 +198,11 @@ owned_put (of_everywhere every) f o ps rest = refl
 
 trying_open : (r : Role) (t sep : Token) → is_trying r ≡ true → IsTrue (follows r (catch_open t sep))
 trying_open trying t sep h = refl
-trying_open _ t sep h = cc
+trying_open _ t sep h = no h
 
 trying_name : (r : Role) (t n sep : Token) → is_trying r ≡ true → IsTrue (follows r (catch_name t n sep))
 trying_name trying t n sep h = refl
-trying_name _ t n sep h = cc
+trying_name _ t n sep h = no h
 
 words_ok : (sc : Scope) (x : Awaited) → IsAwaited sc x → IsEnded sc (at_words x) (words_end x)
 words_ok sc (for_name t) w = record { grammar = ((tt, refl, ((w, refl, refl), refl, refl)), (tt, tt), refl, refl); tokens = λ rest. refl }

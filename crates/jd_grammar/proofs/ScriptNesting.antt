@@ -24,6 +24,7 @@ use Rattle.jd_grammar.proofs.Begun as begun_lemmas
 use Rattle.jd_grammar.proofs.Context.{IsMode, IsConfig, MayGo}
 use Rattle.jd_grammar.proofs.ScriptSound.{next_config}
 use Rattle.jd_grammar.proofs.ScriptFinish.{bare_end, return_end, expression_end, owned, a_signature, opens_with, new_name, words_end, mode_end, shut, shut_blocks, script}
+use Rattle.jd_grammar.proofs.Absurd.{no}
 
 -- ---- depths grow with what stands inside
 
@@ -230,7 +231,7 @@ value_needs n q k t ctx w v = elim k as (λ k. NoLess (round_needs ctx.outer ctx
 
 name_flat : (e : Syntax) → is_name_leaf e ≡ true → height e ≡ 0
 name_flat (leaf t) h = refl
-name_flat _ h = cc
+name_flat _ h = no h
 
 names_flat : (es : Items) → are_names es ≡ true → height_items es ≡ 0
 names_flat none h = refl
@@ -250,7 +251,7 @@ signature_flat (bracket (called (leaf f)) o most last c) h =
     let a = both (is_name f.kind) (are_commas most && is_list_of_names most last) h in
     let b = both (are_commas most) (is_list_of_names most last) a.1 in
     omega (arith, list_flat most last b.1)
-signature_flat _ h = cc
+signature_flat _ h = no h
 
 assign_needs : (t : Token) (ctx : Context) (e : Syntax) → NoLess (round_needs ctx.outer ctx.lines true (0 + height e)) (assign_step t ctx e)
 assign_needs t ctx (leaf n) = only_needs (round_needs ctx.outer ctx.lines true 0) (is_name n.kind) (go ctx (at_expression (in_lead (assigned n t)) (want []))) (λ k. on_needs ctx true 0 1 (omega arith))

@@ -11,6 +11,7 @@ use Rattle.jd_grammar.specs.Script.{Lead, bare, returned, while_head, if_head, e
 use Rattle.jd_grammar.specs.Reader.{Outer, Context, in_lead, in_header, catch_words, catch_named, Mode, at_expression, at_words, complete, Config, beginning, start, scope, a_place, with_expression, open_block, in_outer, is_conditional, is_trying, ending_step, go, catch_step, either, step, and_then, run, whole_of, finish_place, finish}
 use Rattle.jd_grammar.proofs.Reach.{no_sign, reach}
 use Rattle.jd_grammar.proofs.ScriptSteps.{follow, is_ending, separator_ends, expression_ends, beginning_ends, returned_ends, complete_ends, line_ends, header_runs, only_runs, only_some, word_runs, function_runs, lead_runs, fresh_header_runs, packages_run, packages_everywhere_run}
+use Rattle.jd_grammar.proofs.Absurd.{no}
 
 -- A place has been read: whatever ends it finds it whole.
 pub record IsRead (ctx : Context) (p : Place) (rest : List Token) : Type 0 where
@@ -46,7 +47,7 @@ read_alone t ctx rest w = elim t.kind as (λ k. t.kind ≡ k → is_alone (scope
   }
   | Break ↦ λ k h. read_complete ctx (alone t) rest (word_runs Break t ctx (complete (alone t)) rest k (only_some (scope ctx.outer).loop (go ctx (complete (alone t))) h))
   | Continue ↦ λ k h. read_complete ctx (alone t) rest (word_runs Continue t ctx (complete (alone t)) rest k (only_some (scope ctx.outer).loop (go ctx (complete (alone t))) h))
-  | _ ↦ λ k h. cc
+  | _ ↦ λ k h. no h
 ] refl w
 
 -- ---- the openings that a statement begins with
@@ -55,9 +56,9 @@ fresh_runs : (o : Opening) (ctx : Context) (rest : List Token) → IsOpening (sc
 fresh_runs (headed h c sep) ctx rest w f = fresh_header_runs h ctx (put c (sep ∷ rest)) w.0 f ∙ header_runs ctx fresh h c sep rest w.1 w.2
 fresh_runs (try_open t) ctx rest w f = ap (λ x. and_then (either (want_step x t []) x t ctx (in_lead bare) (want [])) (run rest)) w
 fresh_runs (function_open every t s) ctx rest w f = function_runs every t s ctx rest w.0 w.1 w.2 w.3
-fresh_runs (else_open t) ctx rest w f = cc
-fresh_runs (catch_open t sep) ctx rest w f = cc
-fresh_runs (catch_name t n sep) ctx rest w f = cc
+fresh_runs (else_open t) ctx rest w f = no f
+fresh_runs (catch_open t sep) ctx rest w f = no f
+fresh_runs (catch_name t n sep) ctx rest w f = no f
 
 -- ---- the openings behind a block
 
@@ -86,38 +87,38 @@ not_starting _ = refl
 -- what begins a statement doesn't go on with one
 apart : (r : Role) (q : Opening) → is_starting r ≡ false → follows r q ≡ true → follows starting q ≡ true → ⊥
 apart starting q s f g = cc
-apart _ (headed (while_head t) c sep) s f g = cc
-apart _ (headed (if_head t) c sep) s f g = cc
-apart _ (headed (elseif_head t) c sep) s f g = cc
-apart _ (headed (for_head t n i) c sep) s f g = cc
-apart _ (headed (distributed_head h t u op q v n i) c sep) s f g = cc
-apart _ (else_open t) s f g = cc
-apart _ (try_open t) s f g = cc
-apart _ (catch_open t sep) s f g = cc
-apart _ (catch_name t n sep) s f g = cc
-apart _ (function_open every t s) a f g = cc
+apart _ (headed (while_head t) c sep) s f g = no f
+apart _ (headed (if_head t) c sep) s f g = no f
+apart _ (headed (elseif_head t) c sep) s f g = no g
+apart _ (headed (for_head t n i) c sep) s f g = no f
+apart _ (headed (distributed_head h t u op q v n i) c sep) s f g = no f
+apart _ (else_open t) s f g = no g
+apart _ (try_open t) s f g = no f
+apart _ (catch_open t sep) s f g = no g
+apart _ (catch_name t n sep) s f g = no g
+apart _ (function_open every t s) a f g = no f
 
 conditional_of : (r : Role) (t : Token) → header_follows r (elseif_head t) ≡ true → is_conditional r ≡ true
 conditional_of conditional t f = refl
-conditional_of _ t f = cc
+conditional_of _ t f = no f
 
 conditional_else : (r : Role) (t : Token) → follows r (else_open t) ≡ true → is_conditional r ≡ true
 conditional_else conditional t f = refl
-conditional_else _ t f = cc
+conditional_else _ t f = no f
 
 trying_of : (r : Role) (t sep : Token) → follows r (catch_open t sep) ≡ true → is_trying r ≡ true
 trying_of trying t sep f = refl
-trying_of _ t sep f = cc
+trying_of _ t sep f = no f
 
 trying_name : (r : Role) (t n sep : Token) → follows r (catch_name t n sep) ≡ true → is_trying r ≡ true
 trying_name trying t n sep f = refl
-trying_name _ t n sep f = cc
+trying_name _ t n sep f = no f
 
 catch_runs : (x : Before) (t sep : Token) (ctx : Context) (rest : List Token) → is_separator sep.kind ≡ true → run (sep ∷ rest) (go ctx (at_words (catch_words x t))) ≡ run rest (open_block ctx x (catch_open t sep))
 catch_runs x t sep ctx rest h = elim sep.kind as (λ k. is_separator k ≡ true → and_then (catch_step x t k sep ctx) (run rest) ≡ run rest (open_block ctx x (catch_open t sep))) [
   | Semicolon ↦ λ h. refl
   | LineEnd ↦ λ h. refl
-  | _ ↦ λ h. cc
+  | _ ↦ λ h. no h
 ] h
 
 catch_name_runs : (x : Before) (t n sep : Token) (ctx : Context) (rest : List Token) → is_name n.kind ≡ true → is_separator sep.kind ≡ true
@@ -125,7 +126,7 @@ catch_name_runs : (x : Before) (t n sep : Token) (ctx : Context) (rest : List To
 catch_name_runs x t n sep ctx rest a h =
     elim n.kind as (λ k. is_name k ≡ true → and_then (catch_step x t k n ctx) (run (sep ∷ rest)) ≡ run (sep ∷ rest) (go ctx (at_words (catch_named x t n)))) [
       | Name b ↦ λ h. refl
-      | _ ↦ λ h. cc
+      | _ ↦ λ h. no h
     ] a
     ∙ only_runs (is_separator sep.kind) (open_block ctx x (catch_name t n sep)) rest h
 

@@ -14,6 +14,7 @@ use Rattle.jd_grammar.proofs.Invariant.{put_frames, put_state, IsState, MayStep,
 use Rattle.jd_grammar.proofs.Close.{weaken, close_put, IsClosed, closed}
 use Rattle.jd_grammar.proofs.Sound.{step_ok}
 use Rattle.jd_grammar.proofs.Context.{put_outer, put_context, put_bottom, put_owner, put_mode, put_config, AreOuter, IsBottom, IsOwned, are_some, IsAwaited, IsMode, IsContext, IsConfig, IsWhole, IsNext, MayGo, may_go_if}
+use Rattle.jd_grammar.proofs.Absurd.{no}
 
 -- ---- what is whole
 
@@ -86,7 +87,7 @@ end_ok t c k os ls x o b w v h = may_go_if t c (in_outer os ls (complete (blocks
 
 conditional_elseif : (r : Role) (t : Token) → is_conditional r ≡ true → IsTrue (header_follows r (elseif_head t))
 conditional_elseif conditional t h = refl
-conditional_elseif _ t h = cc
+conditional_elseif _ t h = no h
 
 elseif_ok : (t : Token) (c : Config) → t.kind ≡ Elseif → Leaves t c (elseif_block t)
 elseif_ok t c k os ls x o b w v h = may_go_if t c (in_outer os ls (at_expression (in_header (behind (begun x o) b) (elseif_head t)) (want []))) (is_conditional (role_of o)) (λ e. record {
@@ -96,7 +97,7 @@ elseif_ok t c k os ls x o b w v h = may_go_if t c (in_outer os ls (at_expression
 
 conditional_else : (r : Role) (t : Token) → is_conditional r ≡ true → IsTrue (follows r (else_open t))
 conditional_else conditional t h = refl
-conditional_else _ t h = cc
+conditional_else _ t h = no h
 
 else_ok : (t : Token) (c : Config) → t.kind ≡ Else → Leaves t c (else_block t)
 else_ok t c k os ls x o b w v h = may_go_if t c (open_block (record { outer = os; lines = ls }) (behind (begun x o) b) (else_open t)) (is_conditional (role_of o)) (λ e. record {
@@ -212,19 +213,19 @@ statement_ok t ctx b fs n c w v = ending_ok t ctx (at_expression b (record { fra
 
 close_kind : (k : Kind) → is_close k ≡ true → k ≡ CloseParen
 close_kind CloseParen h = refl
-close_kind _ h = cc
+close_kind _ h = no h
 
 open_kind : (k : Kind) → is_open k ≡ true → k ≡ OpenParen
 open_kind OpenParen h = refl
-open_kind _ h = cc
+open_kind _ h = no h
 
 for_kind : (k : Kind) → is_for k ≡ true → k ≡ For
 for_kind For h = refl
-for_kind _ h = cc
+for_kind _ h = no h
 
 assign_kind : (k : Kind) → is_assign k ≡ true → k ≡ Assign
 assign_kind Assign h = refl
-assign_kind _ h = cc
+assign_kind _ h = no h
 
 signature_ok : (w : Owner) (f o t : Token) (ps : Parameters) (ctx : Context) (m : Mode) → IsContext ctx → IsOwned (scope ctx.outer) w f o → AreParameters ps → t.kind ≡ CloseParen
     → ((rest : List Token) → put_owner w (f ∷ o ∷ put_parameters ps (t ∷ rest)) ≡ put_mode m (t ∷ rest)) → IsNext t (go ctx m) (close_signature w (record { name = f; opens = o; parameters = ps; closes = t }) ctx)
@@ -260,11 +261,11 @@ everywhere_ok every t ctx c v = elim t.kind as (λ k. t.kind ≡ k → MayGo t (
 
 trying_catch : (r : Role) (t sep : Token) → is_trying r ≡ true → IsTrue (follows r (catch_open t sep))
 trying_catch trying t sep h = refl
-trying_catch _ t sep h = cc
+trying_catch _ t sep h = no h
 
 trying_named : (r : Role) (t n sep : Token) → is_trying r ≡ true → IsTrue (follows r (catch_name t n sep))
 trying_named trying t n sep h = refl
-trying_named _ t n sep h = cc
+trying_named _ t n sep h = no h
 
 catch_step_ok : (x : Before) (q t : Token) (ctx : Context) → IsContext ctx → IsAwaited (scope ctx.outer) (catch_words x q) → MayGo t (go ctx (at_words (catch_words x q))) (catch_step x q t.kind t ctx)
 catch_step_ok x q t ctx c v = elim t.kind as (λ k. t.kind ≡ k → MayGo t (go ctx (at_words (catch_words x q))) (catch_step x q k t ctx)) [

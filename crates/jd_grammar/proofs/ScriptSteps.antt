@@ -12,6 +12,7 @@ use Rattle.jd_grammar.specs.Reader.{Context, Bottom, in_lead, in_header, Owner, 
 use Rattle.jd_grammar.proofs.Steps.{Follows, and_true}
 use Rattle.jd_grammar.proofs.Reach.{no_sign, reach}
 use Rattle.jd_grammar.proofs.Context.{are_some}
+use Rattle.jd_grammar.proofs.Absurd.{no}
 
 -- a run goes on with an expression as its machine does
 abbrev pub follow : Context → Bottom → Follows
@@ -34,7 +35,7 @@ is_ending _ = false
 pub separator_ends : (k : Kind) → is_separator k ≡ true → is_ending k ≡ true
 separator_ends Semicolon h = refl
 separator_ends LineEnd h = refl
-separator_ends _ h = cc
+separator_ends _ h = no h
 
 -- no expression takes it
 have_none : (k : Kind) (t : Token) (fs : List Frame) (e x : Syntax) → is_ending k ≡ true → close 0 fs e ≡ ([], x) → have_step k t fs e ≡ None
@@ -44,7 +45,7 @@ have_none End t fs e x h c = ap (at_end End t) c
 have_none Elseif t fs e x h c = ap (at_end Elseif t) c
 have_none Else t fs e x h c = ap (at_end Else t) c
 have_none Catch t fs e x h c = ap (at_end Catch t) c
-have_none _ t fs e x h c = cc
+have_none _ t fs e x h c = no h
 
 want_none : (k : Kind) (t : Token) → is_ending k ≡ true → want_step k t [] ≡ None
 want_none Semicolon t h = refl
@@ -53,7 +54,7 @@ want_none End t h = refl
 want_none Elseif t h = refl
 want_none Else t h = refl
 want_none Catch t h = refl
-want_none _ t h = cc
+want_none _ t h = no h
 
 begin_ends : (k : Kind) (t : Token) (ctx : Context) (w : Whole) → is_ending k ≡ true → begin_step k t ctx w ≡ ending_step k t ctx w
 begin_ends Semicolon t ctx w h = refl
@@ -62,7 +63,7 @@ begin_ends End t ctx w h = refl
 begin_ends Elseif t ctx w h = refl
 begin_ends Else t ctx w h = refl
 begin_ends Catch t ctx w h = refl
-begin_ends _ t ctx w h = cc
+begin_ends _ t ctx w h = no h
 
 target_ends : (k : Kind) (t : Token) (ctx : Context) (e : Syntax) (w : Whole) → is_ending k ≡ true → target_step k t ctx e w ≡ ending_step k t ctx w
 target_ends Semicolon t ctx e w h = refl
@@ -71,7 +72,7 @@ target_ends End t ctx e w h = refl
 target_ends Elseif t ctx e w h = refl
 target_ends Else t ctx e w h = refl
 target_ends Catch t ctx e w h = refl
-target_ends _ t ctx e w h = cc
+target_ends _ t ctx e w h = no h
 
 got_ends : (k : Kind) (t : Token) (ctx : Context) (b : Bottom) (fs : List Frame) (e : Syntax) → is_ending k ≡ true → statement_step k t ctx b fs (got e) ≡ ending_step k t ctx (whole_at b fs (got e))
 got_ends k t ctx (in_lead bare) [] e h = target_ends k t ctx e (whole_at (in_lead bare) [] (got e)) h
@@ -107,7 +108,7 @@ complete_at End t ctx s h = refl
 complete_at Elseif t ctx s h = refl
 complete_at Else t ctx s h = refl
 complete_at Catch t ctx s h = refl
-complete_at _ t ctx s h = cc
+complete_at _ t ctx s h = no h
 
 pub complete_ends : (t : Token) (ctx : Context) (s : Stmt) → is_ending t.kind ≡ true → step t (go ctx (complete s)) ≡ ending_step t.kind t ctx (a_place (stmt s))
 complete_ends t ctx s h = complete_at t.kind t ctx s h
@@ -115,7 +116,7 @@ complete_ends t ctx s h = complete_at t.kind t ctx s h
 separates : (k : Kind) (t : Token) (ctx : Context) (w : Whole) → is_separator k ≡ true → ending_step k t ctx w ≡ separator_step t ctx w
 separates Semicolon t ctx w h = refl
 separates LineEnd t ctx w h = refl
-separates _ t ctx w h = cc
+separates _ t ctx w h = no h
 
 pub line_ends : (t : Token) (ctx : Context) (m : Place) → is_separator t.kind ≡ true → ending_step t.kind t ctx (a_place m) ≡ Some (at_line ctx (line ctx.lines m t))
 line_ends t ctx m h = separates t.kind t ctx (a_place m) h
@@ -136,7 +137,7 @@ only_runs b c rest h = ap (λ x. and_then (only_if x c) (run rest)) h
 name_runs : (n : Token) (ctx : Context) (rest : List Token) → is_name n.kind ≡ true → run (n ∷ rest) (go ctx beginning) ≡ run rest (go ctx (at_expression (in_lead bare) (have [] (leaf n))))
 name_runs n ctx rest h = elim n.kind as (λ k. is_name k ≡ true → and_then (either (want_step k n []) k n ctx (in_lead bare) (want [])) (run rest) ≡ run rest (go ctx (at_expression (in_lead bare) (have [] (leaf n))))) [
   | Name a ↦ λ h. refl
-  | _ ↦ λ h. cc
+  | _ ↦ λ h. no h
 ] h
 
 pub assigned_runs : (n t : Token) (ctx : Context) (rest : List Token) → is_name n.kind ≡ true → t.kind ≡ Assign → run (n ∷ t ∷ rest) (go ctx beginning) ≡ run rest (go ctx (at_expression (in_lead (assigned n t)) (want [])))
@@ -150,7 +151,7 @@ updated_runs n t ctx rest h k = name_runs n ctx (t ∷ rest) h
       | PlusAssign ↦ λ k. only_runs (is_name n.kind) (go ctx (at_expression (in_lead (updated n t)) (want []))) rest h
       | MinusAssign ↦ λ k. only_runs (is_name n.kind) (go ctx (at_expression (in_lead (updated n t)) (want []))) rest h
       | StarAssign ↦ λ k. only_runs (is_name n.kind) (go ctx (at_expression (in_lead (updated n t)) (want []))) rest h
-      | _ ↦ λ k. cc
+      | _ ↦ λ k. no k
     ] k
 
 define_runs : (head : Syntax) (t : Token) (ctx : Context) (rest : List Token) → (scope ctx.outer).top ≡ true → is_signature head ≡ true → t.kind ≡ Assign
@@ -159,7 +160,7 @@ define_runs (bracket (called (leaf f)) o most last c) t ctx rest p h k =
     ap (λ x. and_then (either (have_step x t [] (bracket (called (leaf f)) o most last c)) x t ctx (in_lead bare) (have [] (bracket (called (leaf f)) o most last c))) (run rest)) k
     ∙ only_runs ((scope ctx.outer).top && is_signature (bracket (called (leaf f)) o most last c)) (go ctx (at_expression (in_lead (defined (bracket (called (leaf f)) o most last c) t)) (want []))) rest
     (and_true (scope ctx.outer).top (is_signature (bracket (called (leaf f)) o most last c)) p h)
-define_runs _ t ctx rest p h k = cc
+define_runs _ t ctx rest p h k = no h
 
 pub defined_runs : (head : Syntax) (t : Token) (ctx : Context) (rest : List Token) → (scope ctx.outer).top ≡ true → IsAt true false 10 head → is_signature head ≡ true → t.kind ≡ Assign
     → run (put head (t ∷ rest)) (go ctx beginning) ≡ run rest (go ctx (at_expression (in_lead (defined head t)) (want [])))
@@ -182,7 +183,7 @@ parameters_run : (ps : Parameters) (w : Owner) (f o : Token) (ctx : Context) (re
 parameters_run no_parameters w f o ctx rest v s = cc
 parameters_run (first n) w f o ctx rest v s = elim n.kind as (λ k. is_name k ≡ true → and_then (first_step w f o k n ctx) (run rest) ≡ run rest (go ctx (at_words (signature_next w f o (first n))))) [
   | Name a ↦ λ h. refl
-  | _ ↦ λ h. cc
+  | _ ↦ λ h. no h
 ] v
 parameters_run (next no_parameters comma n) w f o ctx rest v s = absurd v
 parameters_run (next (first m) comma n) w f o ctx rest v s = parameters_run (first m) w f o ctx (comma ∷ n ∷ rest) v.0 refl ∙ next_runs (first m) comma n w f o ctx rest v.1 v.2 v.3
@@ -225,7 +226,7 @@ function_runs (Some u) t s ctx rest p e k v =
 everywhere_name : (u n : Token) (ctx : Context) (rest : List Token) → is_name n.kind ≡ true → run (n ∷ rest) (go ctx (at_words (everywhere u))) ≡ run rest (go ctx (at_words (signature_open (of_everywhere u) n)))
 everywhere_name u n ctx rest h = elim n.kind as (λ k. is_name k ≡ true → and_then (everywhere_step u k n ctx) (run rest) ≡ run rest (go ctx (at_words (signature_open (of_everywhere u) n)))) [
   | Name a ↦ λ h. refl
-  | _ ↦ λ h. cc
+  | _ ↦ λ h. no h
 ] h
 
 everywhere_runs : (u : Token) (s : Signature) (t : Token) (ctx : Context) (rest : List Token) → (scope ctx.outer).top ≡ true → u.kind ≡ Everywhere → IsSignature s → t.kind ≡ Assign

@@ -14,6 +14,7 @@ use Rattle.jd_grammar.proofs.Close.{le_of, weaken, demand_le, close_put, IsClose
 use Rattle.jd_grammar.proofs.RowSplit.{put_with_cell, split, minus_of, tight_leaf}
 use Rattle.jd_grammar.proofs.BracketSteps.{Stand, committed, bracket_ok, want_end_ok, operator_ok}
 use Rattle.jd_grammar.proofs.PartSteps.{middle_ok, group_ok, atoms_ok, minus_ok, generator_ok, generator_name_ok, generator_in_ok, element_type_ok, type_end_ok, size_begin_ok, size_ok, place_begin_ok, place_ok}
+use Rattle.jd_grammar.proofs.Absurd.{no}
 
 -- ---- where an operand is wanted
 
@@ -45,9 +46,9 @@ wide_cell t m l o fs w =
   where
     least_tight : (k : Kind) (b : Bool) → is_least k b ≡ true → (if b then false else (if is_number k then true else is_least k b)) ≡ true
     least_tight (Wide g) false h = h
-    least_tight (Wide true) true h = cc
-    least_tight (Wide false) true h = cc
-    least_tight _ b h = cc
+    least_tight (Wide true) true h = no h
+    least_tight (Wide false) true h = no h
+    least_tight _ b h = no h
 
 wide_ok : (t : Token) (fs : List Frame) → IsState (want fs) → MayStep t (want fs) (wide_step t fs)
 wide_ok t (open_end (binary l m) ∷ (fixed (in_bracket itemed o none) ∷ fs)) w = wide_cell t m l o fs w

@@ -8,6 +8,7 @@ use Rattle.jd_grammar.specs.Grammar.{Syntax, leaf, sign, ending, bracket, Head, 
 use Rattle.jd_grammar.specs.Frames.{Hold, spawning, in_bracket, in_middle, in_group, Frame, open_end, fixed, operator, atoms, minus, State, want, have, await, demand, ranges, negated}
 use Rattle.jd_grammar.specs.Machine.{close, with_item, is_closer, item_step, row_end, close_step, bracket_step, want_end, wide_step, want_step, filled, takes, atoms_step, at_binary, at_question, at_arrow, at_keyword, at_end, have_more, have_step, step}
 use Rattle.jd_grammar.proofs.Close.{test_le, test_gt}
+use Rattle.jd_grammar.proofs.Absurd.{no}
 
 -- what follows the machine's steps, as a run of it does
 pub record Follows : Type 1 where
@@ -58,14 +59,14 @@ unary_steps t fs = elim t.kind as (λ k. IsTrue (is_unary k) → want_step k t f
   | Minus ↦ λ h. refl
   | Not ↦ λ h. refl
   | Complement ↦ λ h. refl
-  | _ ↦ λ h. cc
+  | _ ↦ λ h. no h
 ]
 
 pub spawn_steps : (t : Token) (fs : List Frame) → IsTrue (is_spawn t.kind) → demand fs ≤ 1 → want_step t.kind t fs ≡ Some (await fs (atoms (spawning t)))
 spawn_steps t fs h d = elim t.kind as (λ k. IsTrue (is_spawn k) → want_step k t fs ≡ Some (await fs (atoms (spawning t)))) [
   | SpawnAt ↦ λ h. if_some (nat_le (demand fs) 1) (await fs (atoms (spawning t))) (test_le (demand fs) 1 d)
   | FetchFrom ↦ λ h. if_some (nat_le (demand fs) 1) (await fs (atoms (spawning t))) (test_le (demand fs) 1 d)
-  | _ ↦ λ h. cc
+  | _ ↦ λ h. no h
 ] h
 
 -- ---- behind an operand
@@ -143,7 +144,7 @@ ender_have Semicolon t fs e h = refl
 ender_have CloseParen t fs e h = refl
 ender_have CloseBracket t fs e h = refl
 ender_have For t fs e h = refl
-ender_have _ t fs e h = cc
+ender_have _ t fs e h = no h
 
 pub ender_want : (k : Kind) (t : Token) (fs : List Frame) → is_ender k ≡ true → want_step k t fs ≡ want_end k t fs
 unfolding is_ender
@@ -152,13 +153,13 @@ ender_want Semicolon t fs h = refl
 ender_want CloseParen t fs h = refl
 ender_want CloseBracket t fs h = refl
 ender_want For t fs h = refl
-ender_want _ t fs h = cc
+ender_want _ t fs h = no h
 
 pub separator_ends : (b : Bracket) (k : Kind) → is_separator b k ≡ true → is_ender k ≡ true
 unfolding is_ender
 separator_ends b Comma h = refl
 separator_ends b Semicolon h = refl
-separator_ends b _ h = cc
+separator_ends b _ h = no h
 
 pub closer_ends : (b : Bracket) → is_ender (closes b) ≡ true
 unfolding is_ender
@@ -184,7 +185,7 @@ closer_of (indexed f) = refl
 separator_step : (b : Bracket) (o : Token) (es : Items) (k : Kind) (t : Token) (fs : List Frame) (e : Syntax) → is_separator b k ≡ true → bracket_step b o es k t fs e ≡ item_step b o es t fs e
 separator_step b o es Comma t fs e h = refl
 separator_step (called f) o es Semicolon t fs e h = refl
-separator_step _ o es _ t fs e h = cc
+separator_step _ o es _ t fs e h = no h
 
 pub item_steps : (b : Bracket) (o : Token) (es : Items) (t : Token) (fs : List Frame) (e : Syntax) → is_separator b t.kind ≡ true → touches e t ≡ true
     → bracket_step b o es t.kind t fs e ≡ Some (want (fixed (in_bracket b o (with_item es e t)) ∷ fs))
@@ -232,7 +233,7 @@ plain_atom : (hold : Hold) (t : Token) (fs : List Frame) → (if is_number t.kin
 plain_atom hold t fs h k = elim t.kind as (λ k. (if is_number k then true else is_name k) ≡ true → atoms_step hold k t fs ≡ Some (filled hold (leaf t) fs)) [
   | Number n ↦ λ h. if_some (takes hold t) (filled hold (leaf t) fs) k
   | Name n ↦ λ h. if_some (takes hold t) (filled hold (leaf t) fs) k
-  | _ ↦ λ h. cc
+  | _ ↦ λ h. no h
 ] h
 
 pub leaf_atom : (m : Follows) (hold : Hold) (t : Token) (fs : List Frame) (rest : List Token) → (if is_number t.kind then true else is_name t.kind) ≡ true → takes hold t ≡ true
@@ -250,4 +251,4 @@ open_atom m hold t fs rest k g = m.goes t rest (await fs (atoms hold)) (want (fi
 
 pub minus_of : (k : Kind) → is_minus k ≡ true → k ≡ Minus
 minus_of Minus h = refl
-minus_of _ h = cc
+minus_of _ h = no h

@@ -11,6 +11,7 @@ use Rattle.jd_grammar.specs.Depth.{height, height_cells, height_items, height_ma
 pub use Rattle.jd_grammar.specs.Profile.{row_height}
 use Rattle.jd_grammar.specs.Shortest.{token, zero_leaf, zero_token, fill, missing, filled_rows, held, shut_row, shut_bracket, shut, wrap}
 use Rattle.jd_grammar.proofs.RowFacts.{both, and_true, le_of, test_le, test_eq, count_with, count_joined, single_cells, single_even, single_width}
+use Rattle.jd_grammar.proofs.Absurd.{no}
 
 -- ---- heights of cells
 
@@ -41,10 +42,10 @@ height_with_generator (generator s m j x gens) t n i e = omega (arith, height_wi
 pub tight_flat : (e : Syntax) → begins_tight e ≡ true → height (first_of e) ≡ 0
 tight_flat (leaf t) h = refl
 tight_flat (bracket (called f) o es last c) h = tight_flat f h
-tight_flat (bracket grouped _ _ _ _) h = cc
-tight_flat (bracket itemed _ _ _ _) h = cc
-tight_flat (bracket (indexed _) _ _ _ _) h = cc
-tight_flat _ h = cc
+tight_flat (bracket grouped _ _ _ _) h = no h
+tight_flat (bracket itemed _ _ _ _) h = no h
+tight_flat (bracket (indexed _) _ _ _ _) h = no h
+tight_flat _ h = no h
 
 pub binary_row : (l : Syntax) (t : Token) (e : Syntax) → row_height (ending (binary l t) e) ≡ max (row_height l) (max (1 + height (first_of e)) (height_cells (cells_of e)))
 binary_row l t e =
@@ -72,17 +73,17 @@ row_le (ending (binary l t) e) h =
 row_le (bracket grouped o none (just e) c) h = omega arith
 row_le (bracket (called f) o none (just e) c) h =
     let a = both (o.spaced && is_plain e) (is_chain f) h in omega (arith, called_row f o none (just e) c, row_le f a.1)
-row_le (bracket grouped o none nothing c) h = cc
-row_le (bracket grouped o (more _ _ _) x c) h = cc
-row_le (bracket (called f) o none nothing c) h = cc
-row_le (bracket (called f) o (more _ _ _) x c) h = cc
-row_le (bracket itemed o es x c) h = cc
-row_le (bracket (indexed f) o es x c) h = cc
-row_le (ending (choice _ _ _ _) e) h = cc
-row_le (ending (lambda _ _) e) h = cc
-row_le (ending (spawn _ _) e) h = cc
-row_le (ending (keyword _ _) e) h = cc
-row_le _ h = cc
+row_le (bracket grouped o none nothing c) h = no h
+row_le (bracket grouped o (more _ _ _) x c) h = no h
+row_le (bracket (called f) o none nothing c) h = no h
+row_le (bracket (called f) o (more _ _ _) x c) h = no h
+row_le (bracket itemed o es x c) h = no h
+row_le (bracket (indexed f) o es x c) h = no h
+row_le (ending (choice _ _ _ _) e) h = no h
+row_le (ending (lambda _ _) e) h = no h
+row_le (ending (spawn _ _) e) h = no h
+row_le (ending (keyword _ _) e) h = no h
+row_le _ h = no h
 
 -- one atom is no deeper than its row
 short_row : (e : Syntax) → is_chain e ≡ true → is_long e ≡ false → height e ≤ row_height e
@@ -93,23 +94,23 @@ short_row (ending (unary t) e) h l =
   where
     short_tight : (e : Syntax) → begins_tight e ≡ true → is_long e ≡ false → height e ≡ 0
     short_tight (leaf t) h l = refl
-    short_tight (bracket (called f) o es last c) h l = cc
-    short_tight (bracket grouped _ _ _ _) h l = cc
-    short_tight (bracket itemed _ _ _ _) h l = cc
-    short_tight (bracket (indexed _) _ _ _ _) h l = cc
-    short_tight _ h l = cc
-short_row (ending (binary l t) e) h k = cc
+    short_tight (bracket (called f) o es last c) h l = no (sym l)
+    short_tight (bracket grouped _ _ _ _) h l = no h
+    short_tight (bracket itemed _ _ _ _) h l = no h
+    short_tight (bracket (indexed _) _ _ _ _) h l = no h
+    short_tight _ h l = no h
+short_row (ending (binary l t) e) h k = no (sym k)
 short_row (bracket grouped o none (just e) c) h l = omega arith
-short_row (bracket (called f) o es last c) h l = cc
-short_row (bracket grouped o none nothing c) h l = cc
-short_row (bracket grouped o (more _ _ _) x c) h l = cc
-short_row (bracket itemed o es x c) h l = cc
-short_row (bracket (indexed f) o es x c) h l = cc
-short_row (ending (choice _ _ _ _) e) h l = cc
-short_row (ending (lambda _ _) e) h l = cc
-short_row (ending (spawn _ _) e) h l = cc
-short_row (ending (keyword _ _) e) h l = cc
-short_row _ h l = cc
+short_row (bracket (called f) o es last c) h l = no (sym l)
+short_row (bracket grouped o none nothing c) h l = no h
+short_row (bracket grouped o (more _ _ _) x c) h l = no h
+short_row (bracket itemed o es x c) h l = no h
+short_row (bracket (indexed f) o es x c) h l = no h
+short_row (ending (choice _ _ _ _) e) h l = no h
+short_row (ending (lambda _ _) e) h l = no h
+short_row (ending (spawn _ _) e) h l = no h
+short_row (ending (keyword _ _) e) h l = no h
+short_row _ h l = no h
 
 -- a row of few atoms is a matrix
 pub single_full : (e : Syntax) → count_cells (cells_of e) + 1 ≤ 262144 → is_full (cells_of e) ≡ true

@@ -10,5 +10,4 @@ pub mod Profile
 pub mod Script
 pub mod Reader
 pub mod ScriptDepth
-pub mod Forms
 pub mod Promise

@@ -14,8 +14,6 @@ mod laws;
 mod layout;
 mod parts;
 mod ranges;
-#[cfg(test)]
-mod tests;
 
 pub use fault::{Bounds, LayoutFault};
 pub use laws::{gathered_is_whole, layout_is_partition, parts_fold_to_whole, parts_have_cells};

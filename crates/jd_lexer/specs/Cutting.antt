@@ -1,5 +1,5 @@
--- A script is cut into tokens with blanks and comments between: each token is the longest at its place, and its text
--- is the slice of the script at its span.
+-- A script is cut into tokens with blanks and comments between: each token goes as far as `lexeme_at` says, and its
+-- text is the slice of the script at its span.
 use Rattle.std.specs.Prelude.{ℕ, ◌≡◌, ◌+◌, Bool, true, false, not, ◌&&◌, ◌||◌, IsTrue, List, [], ◌∷◌, ◌++◌, length, slice_get, Option, Some, None, ◌==◌, if◌then◌else◌}
 use Rattle.std.specs.List.{list_all}
 use Rattle.jd_grammar.specs.declared.token.Token.{Token}

@@ -160,7 +160,7 @@ word_len bs = prefix_len is_word_byte bs
 abbrev pub macro_at : ℕ → List ℕ → Option (Lexeme × ℕ)
 macro_at a bs = let n = word_len bs in option_map (λ k. (lexeme.Plain k, n)) (word_kind (take (n + 1) (a ∷ bs)))
 
--- the longest token that begins with the byte a, and how many bytes it has behind that
+-- the token that begins with the byte a, as far as its kind of beginning goes on, and how many bytes it has behind that
 unfoldable pub lexeme_at : ℕ → List ℕ → Option (Lexeme × ℕ)
 lexeme_at a bs =
     if is_digit a then Some (plain (number_lexeme (number_at (a - 48) 0 bs)))

@@ -3,8 +3,8 @@ ghost use Rattle.std.specs.Prelude.{ℕ, List};
 ghost use Rattle.jd_lexer.specs.Lexical.{lexed};
 ghost use Rattle.jd_lexer.specs.Cutting.{IsCut};
 
-/// What is read of a script cuts it: each token is the longest at its place, and its text the slice at its span; blanks
-/// and comments stand between; and reading stops at the first place where neither begins.
+/// What is read of a script cuts it: each token goes as far as its beginning says, and its text is the slice at its span;
+/// blanks and comments stand between; and reading stops at the first place where neither begins.
 pub fn reading_cuts_the_script()
     ensures { (bytes : List ℕ) → IsCut bytes (lexed bytes) }
 {}

@@ -240,14 +240,13 @@ fn number_at(bytes: &[u8], start: usize, first: u8) -> (Kind, usize)
     (number_kind(value), at - start)
 }
 
-/// The text whose opening quote stands before a place, with its escapes read, and how many bytes it
-/// has there with its closing quote. None where it isn't a text.
-fn text_at(alloc: Global, bytes: &[u8], start: usize) -> Result<Option<(Text, usize)>, AllocError>
+/// Reads the text whose opening quote stands before a place, with its escapes, and says how many
+/// bytes it has there with its closing quote. None where it isn't a text.
+fn read_text(text: &mut Text, bytes: &[u8], start: usize) -> Result<Option<usize>, AllocError>
     requires { start ≤ length bytes.now }
-    ensures text { IfOk result (λ found. found ≡ text_at [] 0 false (drop start bytes.now)) }
-    ensures within { IfOk result (λ found. IfSome found (λ x. start + x.1 ≤ length bytes.now)) }
+    ensures text { IfOk result (λ found. option_map (λ len. (text.new, len)) found ≡ text_at text.old 0 false (drop start bytes.now)) }
+    ensures within { IfOk result (λ found. IfSome found (λ len. start + len ≤ length bytes.now)) }
 {
-    let mut text = Items::new(alloc);
     let mut escaping = false;
     let mut at = start;
     while at < bytes.len() {
@@ -261,7 +260,7 @@ fn text_at(alloc: Global, bytes: &[u8], start: usize) -> Result<Option<(Text, us
             escaping = false;
         } else {
             match byte {
-                b'"' => return Ok(Some((text, at - start))),
+                b'"' => return Ok(Some(at - start)),
                 b'\\' => escaping = true,
                 b'\n' | b'$' => return Ok(None),
                 _ => text.push(byte)?,
@@ -269,6 +268,20 @@ fn text_at(alloc: Global, bytes: &[u8], start: usize) -> Result<Option<(Text, us
         }
     }
     Ok(None)
+}
+
+/// The text whose opening quote stands before a place, with its escapes read, and how many bytes it
+/// has there with its closing quote. None where it isn't a text.
+fn text_at(alloc: Global, bytes: &[u8], start: usize) -> Result<Option<(Text, usize)>, AllocError>
+    requires { start ≤ length bytes.now }
+    ensures text { IfOk result (λ found. found ≡ text_at [] 0 false (drop start bytes.now)) }
+    ensures within { IfOk result (λ found. IfSome found (λ x. start + x.1 ≤ length bytes.now)) }
+{
+    let mut text = Items::new(alloc);
+    match read_text(&mut text, bytes, start)? {
+        Some(len) => Ok(Some((text, len))),
+        None => Ok(None),
+    }
 }
 
 /// The bytes from one place to another.
@@ -309,8 +322,7 @@ fn macro_at(bytes: &[u8], at: usize) -> Option<(Lexeme, usize)>
     Some((Lexeme::Plain(kind), end - at - 1))
 }
 
-/// The longest token at a place, and how many bytes it has behind its first. None where no token
-/// begins.
+/// The token at a place, and how many bytes it has behind its first. None where no token begins.
 #[tactic(auto, unfolding(crate::specs::Lexical::lexeme_at))]
 pub fn lexeme_at(
     alloc: Global,

@@ -1,8 +1,8 @@
 //! Cuts a script into tokens.
-ghost use Rattle.std.specs.Prelude.{◌≡◌, ◌+◌, ◌≤◌, ◌<◌, ◌^◌, ◌||◌, ◌∷◌, take, drop, length, slice_index, IfOk, IfSome, IfNone, OnOk, nat_lt};
+ghost use Rattle.std.specs.Prelude.{◌≡◌, Some, None, ◌+◌, ◌≤◌, ◌<◌, ◌^◌, ◌||◌, ◌∷◌, take, drop, length, slice_index, IfOk, IfSome, IfNone, OnOk, nat_lt};
 ghost use Rattle.std.specs.HashSet.{hash_set_len};
-ghost use Rattle.jd_lexer.specs.Lexical.{is_line_end, joins, opened, lexeme_at, gap_at, with_gap, with_token, with_lexeme, start, lexed, IsWithin};
-ghost use Rattle.jd_lexer.specs.Lexing.{lexed_of};
+ghost use Rattle.jd_lexer.specs.Lexical.{is_line_end, joins, opened, lexeme_at, gap_at, with_gap, with_token, with_lexeme, start, scan, lexed, IsWithin};
+ghost use Rattle.jd_lexer.specs.Lexing.{lexed_of, IsReadTo};
 ghost use Rattle.jd_lexer.specs.Names.{texts_of, AreNoWords, known_at};
 
 use crate::lexeme::{Lexeme, Text, is_letter, lexeme_at, line_end, name_end, slice, starts_with};
@@ -137,24 +137,37 @@ impl<'a> Lexer<'a> {
         Ok(())
     }
 
+    /// Adds the text that stands at a place as these bytes.
+    fn add_text(&mut self, text: Text, at: usize, bytes: &[u8]) -> Result<(), AllocError>
+        requires counts { IsWithin (lexed_of self.old) at }
+        requires within { at + length bytes.now < 2 ^ 32 }
+        ensures { OnOk result (lexed_of self.new ≡ with_lexeme (lexed_of self.old) (Lexeme.Text text) at bytes.now) }
+    {
+        let number = self.texts.len() as u32;
+        self.texts.push(text)?;
+        self.add_token(Kind::Text(number), at, at + bytes.len())
+    }
+
+    /// Adds the name that stands at a place as these bytes, and is no word.
+    fn add_name(&mut self, at: usize, bytes: &'a [u8]) -> Result<(), AllocError>
+        requires counts { IsWithin (lexed_of self.old) at }
+        requires within { at + length bytes.now < 2 ^ 32 }
+        ensures { OnOk result (lexed_of self.new ≡ with_lexeme (lexed_of self.old) Lexeme.Name at bytes.now) }
+    {
+        let number = number_of(&mut self.names, bytes)? as u32;
+        self.add_token(Kind::Name(Name::Other(number)), at, at + bytes.len())
+    }
+
     /// Adds the token that stands at a place as these bytes.
     fn add(&mut self, lexeme: Lexeme, at: usize, bytes: &'a [u8]) -> Result<(), AllocError>
         requires counts { IsWithin (lexed_of self.old) at }
         requires within { at + length bytes.now < 2 ^ 32 }
         ensures { OnOk result (lexed_of self.new ≡ with_lexeme (lexed_of self.old) lexeme at bytes.now) }
     {
-        let end = at + bytes.len();
         match lexeme {
-            Lexeme::Plain(kind) => self.add_token(kind, at, end),
-            Lexeme::Text(text) => {
-                let number = self.texts.len() as u32;
-                self.texts.push(text)?;
-                self.add_token(Kind::Text(number), at, end)
-            }
-            Lexeme::Name => {
-                let number = number_of(&mut self.names, bytes)? as u32;
-                self.add_token(Kind::Name(Name::Other(number)), at, end)
-            }
+            Lexeme::Plain(kind) => self.add_token(kind, at, at + bytes.len()),
+            Lexeme::Text(text) => self.add_text(text, at, bytes),
+            Lexeme::Name => self.add_name(at, bytes),
         }
     }
 
@@ -185,6 +198,73 @@ impl<'a> Lexer<'a> {
             None => Ok(None),
         }
     }
+
+    /// Reads the token at a place where no blank and no comment stands, and gives the place behind it. None where no token
+    /// begins.
+    fn read_token(
+        &mut self,
+        alloc: Global,
+        bytes: &'a [u8],
+        at: usize,
+    ) -> Result<Option<usize>, AllocError>
+        requires place { at < length bytes.now }
+        requires short { length bytes.now < 2 ^ 32 }
+        requires counts { IsWithin (lexed_of self.old) at }
+        requires names { AreNoWords (lexed_of self.old).names }
+        requires gap { let s = lexed_of self.old in
+            None ≡ gap_at (nat_lt 0 s.nest || s.joined) (slice_index bytes.now at) (drop (at + 1) bytes.now) }
+        ensures read { IfOk result (λ found. IfSome found (λ end. IsReadTo bytes.now at end (lexed_of self.old) (lexed_of self.new))) }
+        ensures stopped { IfOk result (λ found. IfNone found ((lexed_of self.new, Some at) ≡ scan at 0 (lexed_of self.old) (drop at bytes.now))) }
+    {
+        match lexeme_at(alloc, bytes, at)? {
+            Some((lexeme, more)) => {
+                let end = at + 1 + more;
+                self.add(lexeme, at, slice(bytes, at, end))?;
+                Ok(Some(end))
+            }
+            None => Ok(None),
+        }
+    }
+
+    /// Reads the blank, the comment or the token at a place, and gives the place behind it. None where none of them begins.
+    fn read_at(
+        &mut self,
+        alloc: Global,
+        bytes: &'a [u8],
+        at: usize,
+    ) -> Result<Option<usize>, AllocError>
+        requires place { at < length bytes.now }
+        requires short { length bytes.now < 2 ^ 32 }
+        requires counts { IsWithin (lexed_of self.old) at }
+        requires names { AreNoWords (lexed_of self.old).names }
+        ensures read { IfOk result (λ found. IfSome found (λ end. IsReadTo bytes.now at end (lexed_of self.old) (lexed_of self.new))) }
+        ensures stopped { IfOk result (λ found. IfNone found ((lexed_of self.new, Some at) ≡ scan at 0 (lexed_of self.old) (drop at bytes.now))) }
+    {
+        if let Some(more) = gap_at(bytes, at, self.is_end_blank()) {
+            self.add_gap();
+            return Ok(Some(at + 1 + more));
+        }
+        if let Some(more) = self.add_known(bytes, at)? {
+            return Ok(Some(at + 1 + more));
+        }
+        self.read_token(alloc, bytes, at)
+    }
+
+    /// Reads a script, and gives the first place where no token begins, if there is one.
+    fn read_all(&mut self, alloc: Global, bytes: &'a [u8]) -> Result<Option<usize>, AllocError>
+        requires short { length bytes.now < 2 ^ 32 }
+        requires unread { lexed_of self.old ≡ start }
+        ensures { IfOk result (λ stop. (lexed_of self.new, stop) ≡ lexed bytes.now) }
+    {
+        let mut at = 0;
+        while at < bytes.len() {
+            match self.read_at(alloc, bytes, at)? {
+                Some(end) => at = end,
+                None => return Ok(Some(at)),
+            }
+        }
+        Ok(None)
+    }
 }
 
 /// What is read of a script, and the first place where no token begins, if there is one. It fails only for want of
@@ -194,23 +274,6 @@ pub fn lex<'a>(alloc: Global, bytes: &'a [u8]) -> Result<(Lexer<'a>, Option<usiz
     ensures read { IfOk result (λ read. (lexed_of read.0, read.1) ≡ lexed bytes.now) }
 {
     let mut lexer = Lexer::new(alloc);
-    let mut at = 0;
-    while at < bytes.len() {
-        if let Some(more) = gap_at(bytes, at, lexer.is_end_blank()) {
-            lexer.add_gap();
-            at = at + 1 + more;
-        } else if let Some(more) = lexer.add_known(bytes, at)? {
-            at = at + 1 + more;
-        } else {
-            match lexeme_at(alloc, bytes, at)? {
-                Some((lexeme, more)) => {
-                    let end = at + 1 + more;
-                    lexer.add(lexeme, at, slice(bytes, at, end))?;
-                    at = end;
-                }
-                None => return Ok((lexer, Some(at))),
-            }
-        }
-    }
-    Ok((lexer, None))
+    let stop = lexer.read_all(alloc, bytes)?;
+    Ok((lexer, stop))
 }

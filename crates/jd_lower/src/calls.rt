@@ -1,5 +1,7 @@
 //! Calls that have an effect.
-ghost use Rattle.std.specs.Prelude.{◌≡◌, IfOk};
+ghost use Rattle.std.specs.Prelude.{◌≡◌, ◌∷◌, [], IfOk};
+ghost use Rattle.jd_value.specs.declared.tree.Block.{roll-Block};
+ghost use Rattle.jd_value.specs.declared.tree.Stmt.TheVariants.{Value};
 ghost use Rattle.jd_grammar.specs.Trees.{none, more, just};
 ghost use Rattle.jd_tree.specs.Plain.{plain, plain_item, plain_listing};
 ghost use Rattle.jd_lower.specs.Steps.{Lowers};
@@ -81,13 +83,24 @@ fn lower_parts(
         return Err(LowerFault::NotBuilt);
     }
     let function = lower_function(alloc, names, &function.expr)?;
-    let process = lower_sum(alloc, names, &process.expr)?;
-    let argument = lower_sum(alloc, names, argument)?;
-    Ok(RemoteCall {
-        function,
-        process,
-        argument,
-    })
+    let process = match lower_sum(alloc, names, &process.expr) {
+        Ok(process) => process,
+        Err(fault) => {
+            drop(function);
+            return Err(fault);
+        }
+    };
+    match lower_sum(alloc, names, argument) {
+        Ok(argument) => Ok(RemoteCall {
+            function,
+            process,
+            argument,
+        }),
+        Err(fault) => {
+            drop((function, process));
+            Err(fault)
+        }
+    }
 }
 
 /// What a remote call runs, and where.
@@ -107,17 +120,38 @@ pub fn lower_remote_call(
     }
 }
 
+/// The parameter, as that of a body.
+fn parameters_of(alloc: Global, parameter: &Txt) -> Result<Shared<Items<Txt>>, OutOfMemory>
+    ensures { IfOk result (λ parameters. parameters ≡ parameter.now ∷ []) }
+{
+    let mut parameters = Items::new(alloc);
+    parameters.push(parameter.copy()?)?;
+    Shared::new(alloc, parameters)
+}
+
+/// The statement of a body that has this value.
+fn block_of(alloc: Global, value: Expr) -> Result<Shared<Block>, OutOfMemory>
+    ensures { IfOk result (λ block. block ≡ roll-Block (record { stmts = Value value ∷ [] })) }
+{
+    let mut stmts = Items::new(alloc);
+    stmts.push(Stmt::Value(value))?;
+    Shared::new(alloc, Block { stmts })
+}
+
 /// The body of a function of one value.
 pub fn body_of(alloc: Global, number: u64, function: Function) -> Result<Body, OutOfMemory>
     ensures { IfOk result (λ body. body ≡ body_of number function) }
 {
-    let mut parameters = Items::new(alloc);
-    parameters.push(function.parameter.get().copy()?)?;
-    let mut stmts = Items::new(alloc);
-    stmts.push(Stmt::Value(function.body))?;
-    Ok(Body {
-        number,
-        parameters: Shared::new(alloc, parameters)?,
-        block: Shared::new(alloc, Block { stmts })?,
-    })
+    let Function { parameter, body } = function;
+    match parameters_of(alloc, parameter.get()) {
+        Ok(parameters) => Ok(Body {
+            number,
+            parameters,
+            block: block_of(alloc, body)?,
+        }),
+        Err(refused) => {
+            drop(body);
+            Err(refused)
+        }
+    }
 }

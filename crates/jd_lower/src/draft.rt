@@ -1,11 +1,11 @@
 //! What is written so far.
-ghost use Rattle.std.specs.Prelude.{◌≡◌};
+ghost use Rattle.std.specs.Prelude.{◌≡◌, ◌∷◌, IfOk, decimal};
 ghost use Rattle.jd_lower.specs.Steps as steps;
 ghost use Rattle.jd_lower.specs.Steps.{Gives};
 
 use crate::fault::LowerFault;
 use itoa::Buffer;
-use jd_value::{Shared, Stmt, Txt};
+use jd_value::{OutOfMemory, Shared, Stmt, Txt};
 use sqlite_items::Items;
 use std::alloc::Global;
 
@@ -17,6 +17,17 @@ pub struct Draft {
     /// The last number of a body.
     pub bodies: u64,
     pub stmts: Items<Stmt>,
+}
+
+/// How the variable of this number is spelled.
+fn variable_name(alloc: Global, number: u64) -> Result<Txt, OutOfMemory>
+    ensures { IfOk result (λ name. name ≡ 37 ∷ decimal number) }
+{
+    let mut buffer = Buffer::new();
+    let mut name = Txt::new(alloc);
+    name.push_byte(b'%')?;
+    name.push_bytes(buffer.format(number).as_bytes())?;
+    Ok(name)
 }
 
 impl Draft {
@@ -38,11 +49,7 @@ impl Draft {
             return Err(LowerFault::OutOfMemory);
         }
         self.effects += 1;
-        let mut buffer = Buffer::new();
-        let mut name = Txt::new(alloc);
-        name.push_byte(b'%')?;
-        name.push_bytes(buffer.format(self.effects).as_bytes())?;
-        Ok(Shared::new(alloc, name)?)
+        Ok(Shared::new(alloc, variable_name(alloc, self.effects)?)?)
     }
 
     /// The next number of a body.

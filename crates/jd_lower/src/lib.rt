@@ -14,8 +14,6 @@ mod lines;
 mod names;
 mod script;
 mod sums;
-#[cfg(test)]
-mod tests;
 
 pub use fault::LowerFault;
 pub use script::lower;

@@ -1,27 +1,27 @@
 //! Lines, each of which prints, assigns or is empty.
-ghost use Rattle.std.specs.Prelude.{◌≡◌, Some, option_map, slice_get};
+ghost use Rattle.std.specs.Prelude.{◌≡◌, ◌++◌, ◌∷◌, [], Some, IfOk, option_map, slice_get};
 ghost use Rattle.jd_grammar.specs.declared.token.Word.TheVariants as word;
 ghost use Rattle.jd_grammar.specs.Kinds.{is_word};
 ghost use Rattle.jd_tree.specs.Plain.{plain, plain_listing};
 ghost use Rattle.jd_script.specs.PlainScript.{plain_stmt, place_of};
 ghost use Rattle.jd_lower.specs.Names.{text};
 ghost use Rattle.jd_lower.specs.Sums.{call_of};
-ghost use Rattle.jd_lower.specs.Steps.{Gives, Lowers};
+ghost use Rattle.jd_lower.specs.Steps.{and_then, pure, Gives, Lowers};
 ghost use Rattle.jd_lower.specs.Lowering as lowering;
 ghost use Rattle.jd_lower.specs.Lowering.{fetched, remote_call, call_value, text_or_operand, argument, all_arguments, print_line, assign_call, assign, stmt_line, line_at};
 
 use crate::calls::{RemoteCall, body_of, lower_fetched, lower_remote_call};
 use crate::draft::Draft;
 use crate::fault::LowerFault;
-use crate::names::{is_fetch, is_remote_call, name_in};
-use crate::sums::{callee_of, is_comma, lower_call, lower_operand, lower_sum};
+use crate::names::{is_fetch, is_remote_call, name_in, shared_text};
+use crate::sums::{callee_of, is_comma, lower_call, lower_operand, lower_sum, two_items};
 use jd_grammar::token::{Kind, Name, Word};
 use jd_lexer::Text;
 use jd_script::tree as syntax_script;
 use jd_script::tree::Lead;
 use jd_tree::tree as syntax;
 use jd_tree::tree::Listing;
-use jd_value::{Expr, Operation, Shared, Stmt, Txt};
+use jd_value::{Body, Expr, Operation, OutOfMemory, Shared, Stmt, Txt};
 use sqlite_items::{Boxed, Items, at};
 use std::alloc::Global;
 
@@ -44,8 +44,8 @@ fn lower_leaf(
 {
     match kind {
         Kind::Text(n) => {
-            let text = Txt::from_bytes(alloc, text_at(texts, n as usize))?;
-            Ok(Expr::Text(Shared::new(alloc, text)?))
+            let text = shared_text(alloc, text_at(texts, n as usize))?;
+            Ok(Expr::Text(text))
         }
         _ => lower_operand(alloc, names, kind),
     }
@@ -116,6 +116,30 @@ fn lower_argument(
     }
 }
 
+/// The last argument behind the others.
+fn with_last(
+    alloc: Global,
+    texts: &[Text],
+    names: &[Shared<Txt>],
+    args: Items<Expr>,
+    last: &syntax::Expr,
+    draft: &mut Draft,
+) -> Result<Items<Expr>, LowerFault>
+    ensures { Gives (and_then (argument texts.now names.now (plain last.now) draft.old) (λ y. pure (args ++ y ∷ []))) result draft.new }
+{
+    let mut args = args;
+    match lower_argument(alloc, texts, names, last, draft) {
+        Ok(argument) => {
+            args.push(argument)?;
+            Ok(args)
+        }
+        Err(fault) => {
+            drop(args);
+            Err(fault)
+        }
+    }
+}
+
 fn lower_arguments(
     alloc: Global,
     texts: &[Text],
@@ -132,17 +156,23 @@ fn lower_arguments(
         }
         args.push(lower_argument(alloc, texts, names, &item.expr, draft)?)?;
     }
-    if let Some(last) = &listing.last {
-        args.push(lower_argument(alloc, texts, names, last, draft)?)?;
+    match &listing.last {
+        Some(last) => with_last(alloc, texts, names, args, last, draft),
+        None => Ok(args),
     }
-    Ok(args)
 }
 
 /// Prints values, and has the answer as its own value.
 fn print(alloc: Global, values: Items<Expr>, draft: &mut Draft) -> Result<(), LowerFault>
     ensures { Gives (lowering.print values draft.old) result draft.new }
 {
-    let answer = draft.variable(alloc)?;
+    let answer = match draft.variable(alloc) {
+        Ok(answer) => answer,
+        Err(fault) => {
+            drop(values);
+            return Err(fault);
+        }
+    };
     draft.write(Stmt::Effect(answer.share()?, Operation::Print, None, values))?;
     draft.write(Stmt::Value(Expr::Name(answer)))
 }
@@ -175,6 +205,30 @@ fn lower_print(
     }
 }
 
+/// What a call in another process runs, and what it is given: the process and the argument.
+fn called(alloc: Global, number: u64, call: RemoteCall) -> Result<(Body, Items<Expr>), OutOfMemory>
+    ensures { IfOk result (λ p. p ≡ (lowering.body_of number call.function, call.process ∷ call.argument ∷ [])) }
+{
+    let RemoteCall {
+        function,
+        process,
+        argument,
+    } = call;
+    match body_of(alloc, number, function) {
+        Ok(body) => match two_items(alloc, process, argument) {
+            Ok(args) => Ok((body, args)),
+            Err(refused) => {
+                drop(body);
+                Err(refused)
+            }
+        },
+        Err(refused) => {
+            drop((process, argument));
+            Err(refused)
+        }
+    }
+}
+
 /// The body of the call gets the next number.
 fn call_into(
     alloc: Global,
@@ -184,12 +238,16 @@ fn call_into(
 ) -> Result<(), LowerFault>
     ensures { Gives (lowering.call_into x call draft.old) result draft.new }
 {
-    let number = draft.body_number()?;
-    let body = body_of(alloc, number, call.function)?;
-    let mut args = Items::new(alloc);
-    args.push(call.process)?;
-    args.push(call.argument)?;
-    draft.write(Stmt::Effect(x, Operation::RemoteCall, Some(body), args))
+    match draft.body_number() {
+        Ok(number) => {
+            let (body, args) = called(alloc, number, call)?;
+            draft.write(Stmt::Effect(x, Operation::RemoteCall, Some(body), args))
+        }
+        Err(fault) => {
+            drop(call);
+            Err(fault)
+        }
+    }
 }
 
 /// A call as a right side: a fetch, a call in another process, or a sum.
@@ -205,14 +263,29 @@ fn lower_assigned_call(
         Gives (assign_call names.now x f (fetched names.now inside.most inside.last) (remote_call names.now inside.most inside.last) (call_of names.now f inside.most inside.last) draft.old) result draft.new }
 {
     if is_fetch(names, f) {
-        let future = lower_fetched(alloc, names, listing)?;
-        fetch_into(alloc, x, future, draft)
+        match lower_fetched(alloc, names, listing) {
+            Ok(future) => fetch_into(alloc, x, future, draft),
+            Err(fault) => {
+                drop(x);
+                Err(fault)
+            }
+        }
     } else if is_remote_call(names, f) {
-        let call = lower_remote_call(alloc, names, listing)?;
-        call_into(alloc, x, call, draft)
+        match lower_remote_call(alloc, names, listing) {
+            Ok(call) => call_into(alloc, x, call, draft),
+            Err(fault) => {
+                drop(x);
+                Err(fault)
+            }
+        }
     } else {
-        let sum = lower_call(alloc, names, listing, f)?;
-        draft.write(Stmt::Set(x, sum))
+        match lower_call(alloc, names, listing, f) {
+            Ok(sum) => draft.write(Stmt::Set(x, sum)),
+            Err(fault) => {
+                drop(x);
+                Err(fault)
+            }
+        }
     }
 }
 

@@ -37,14 +37,20 @@ fn word_text(word: Word) -> &'static [u8]
     }
 }
 
+/// A text with many owners.
+pub fn shared_text(alloc: Global, bytes: &[u8]) -> Result<Shared<Txt>, OutOfMemory>
+    ensures { IfOk result (λ text. text ≡ bytes.now) }
+{
+    Shared::new(alloc, Txt::from_bytes(alloc, bytes)?)
+}
+
 /// Each name with many owners, so that its uses share one text.
 pub fn shared_names(alloc: Global, names: &[Text]) -> Result<Items<Shared<Txt>>, OutOfMemory>
     ensures { IfOk result (λ shared. shared ≡ names.now) }
 {
     let mut shared = Items::new(alloc);
     for name in names {
-        let name = Txt::from_bytes(alloc, name.as_slice())?;
-        shared.push(Shared::new(alloc, name)?)?;
+        shared.push(shared_text(alloc, name.as_slice())?)?;
     }
     Ok(shared)
 }
@@ -75,8 +81,7 @@ pub fn name_of_variable(
     {
         return name.share();
     }
-    let text = Txt::from_bytes(alloc, name_text(names, name))?;
-    Shared::new(alloc, text)
+    shared_text(alloc, name_text(names, name))
 }
 
 /// The name of a variable, where the token is a name.

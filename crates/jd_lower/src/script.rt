@@ -72,12 +72,17 @@ pub fn lower(alloc: Global, script: &Script) -> Result<Program, LowerFault>
 {
     let names = shared_names(alloc, script.names.as_slice())?;
     let mut draft = Draft::new(alloc);
-    lower_block(
+    match lower_block(
         alloc,
         script.texts.as_slice(),
         names.as_slice(),
         &script.block,
         &mut draft,
-    )?;
-    Ok(program_of(alloc, draft.stmts)?)
+    ) {
+        Ok(()) => Ok(program_of(alloc, draft.stmts)?),
+        Err(fault) => {
+            drop(draft);
+            Err(fault)
+        }
+    }
 }

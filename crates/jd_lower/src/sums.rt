@@ -1,5 +1,5 @@
 //! Sums: numbers, variables, and what is computed from them without an effect.
-ghost use Rattle.std.specs.Prelude.{◌≡◌, Some, map};
+ghost use Rattle.std.specs.Prelude.{◌≡◌, ◌∷◌, [], Some, map, IfOk};
 ghost use Rattle.jd_grammar.specs.declared.token.Word.TheVariants as word;
 ghost use Rattle.jd_grammar.specs.Kinds as kinds;
 ghost use Rattle.jd_grammar.specs.Grammar as grammar;
@@ -13,7 +13,7 @@ use crate::names::name_of_variable;
 use jd_grammar::token::{Kind, Name, Word};
 use jd_tree::tree as syntax;
 use jd_tree::tree::{Application, Item, Listing, Operation};
-use jd_value::{Builtin, Expr, Shared, Txt};
+use jd_value::{Builtin, Expr, OutOfMemory, Shared, Txt};
 use sqlite_items::Items;
 use std::alloc::Global;
 
@@ -103,11 +103,29 @@ fn applied_to_one(alloc: Global, function: Option<Builtin>, x: Expr) -> Result<E
     ensures { Lowers (of_one function (Some x)) result }
 {
     let Some(function) = function else {
+        drop(x);
         return Err(LowerFault::NotBuilt);
     };
     let mut args = Items::new(alloc);
     args.push(x)?;
     Ok(Expr::Apply(function, args))
+}
+
+/// Two expressions, as the operands of one operation.
+pub fn two_items(alloc: Global, x: Expr, y: Expr) -> Result<Items<Expr>, OutOfMemory>
+    ensures { IfOk result (λ items. items ≡ x ∷ y ∷ []) }
+{
+    let mut items = Items::new(alloc);
+    match items.push(x) {
+        Ok(()) => {
+            items.push(y)?;
+            Ok(items)
+        }
+        Err(_) => {
+            drop(y);
+            Err(OutOfMemory)
+        }
+    }
 }
 
 fn applied_to_two(
@@ -119,12 +137,10 @@ fn applied_to_two(
     ensures { Lowers (of_two function (Some x) (Some y)) result }
 {
     let Some(function) = function else {
+        drop((x, y));
         return Err(LowerFault::NotBuilt);
     };
-    let mut args = Items::new(alloc);
-    args.push(x)?;
-    args.push(y)?;
-    Ok(Expr::Apply(function, args))
+    Ok(Expr::Apply(function, two_items(alloc, x, y)?))
 }
 
 #[tactic(auto, using(crate::proofs::Lowered::some_items))]
@@ -184,8 +200,13 @@ pub fn lower_call(
         }
         None => {
             let x = lower_first(alloc, names, listing.items.as_slice())?;
-            let y = lower_sum(alloc, names, last)?;
-            applied_to_two(alloc, function_of(f), x, y)
+            match lower_sum(alloc, names, last) {
+                Ok(y) => applied_to_two(alloc, function_of(f), x, y),
+                Err(fault) => {
+                    drop(x);
+                    Err(fault)
+                }
+            }
         }
     }
 }
@@ -218,8 +239,13 @@ fn lower_operation(
     ensures { let behind = plain_operation operation.now in
         Lowers (of_two (operator behind.0.kind) (Some left) (sum_of names.now behind.1)) result }
 {
-    let right = lower_sum(alloc, names, &operation.operand)?;
-    applied_to_two(alloc, operator_of(operation.operator.kind), left, right)
+    match lower_sum(alloc, names, &operation.operand) {
+        Ok(right) => applied_to_two(alloc, operator_of(operation.operator.kind), left, right),
+        Err(fault) => {
+            drop(left);
+            Err(fault)
+        }
+    }
 }
 
 /// Operators behind a sum, each of which takes all before it.

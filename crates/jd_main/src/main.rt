@@ -1,22 +1,40 @@
 //! The program `jd`: it makes the host's objects and hands them to the top call.
 #![tactic(auto)]
 
-use jd_engine::sim;
+use jd_engine::{Ending, Status, report, sim};
 use jd_source::{NoPause, StdSink, StdSource};
 use jd_world::ListFabric;
+use std::alloc::AllocError;
 use std::process::ExitCode;
 use std::{env, io};
 
-fn main(rt: HostRuntime) -> io::Result<ExitCode> {
-    let alloc = rt.alloc();
-    let mut words = Vec::new(alloc);
-    let mut args = env::args(&rt)?;
-    let _program = args.next();
-    for word in args {
-        words.push(word)?;
+/// The words behind the program's name: none where one isn't UTF-8, since no command has such a word.
+fn words(rt: &HostRuntime) -> Result<Vec<String>, AllocError> {
+    let mut words = Vec::new(rt.alloc());
+    match env::args(rt) {
+        Ok(mut args) => {
+            let _program = args.next();
+            for word in args {
+                words.push(word)?;
+            }
+        }
+        Err(error) => {
+            if error.kind() == io::ErrorKind::OutOfMemory {
+                return Err(AllocError);
+            }
+        }
     }
-    let mut out = StdSink::new(io::writer(&rt));
+    Ok(words)
+}
+
+fn main(rt: HostRuntime) -> ExitCode {
+    let alloc = rt.alloc();
     let mut err = StdSink::new(rt.stderr());
+    let Ok(words) = words(&rt) else {
+        report(&mut err, &Ending::OutOfMemory);
+        return ExitCode::from(Status::OutOfMemory as u8);
+    };
+    let mut out = StdSink::new(io::writer(&rt));
     let mut script = StdSource::new(&rt);
     let mut fabric = ListFabric::new(alloc);
     let status = sim(
@@ -28,5 +46,5 @@ fn main(rt: HostRuntime) -> io::Result<ExitCode> {
         &mut fabric,
         &mut NoPause,
     );
-    Ok(ExitCode::from(status as u8))
+    ExitCode::from(status as u8)
 }

@@ -1,5 +1,5 @@
 //! A task calls another.
-ghost use Rattle.std.specs.Prelude.{◌≡◌, OnOk, ◌≢◌, ◌+◌};
+ghost use Rattle.std.specs.Prelude.{◌≡◌, OnOk, ◌≢◌, ◌+◌, ◌==◌, if◌then◌else◌};
 ghost use Rattle.jd_model.specs.Node as spec;
 ghost use Rattle.jd_node.specs.View.{node_of, id_of, Makes};
 ghost use Rattle.jd_node.specs.Steps.{greatest};
@@ -35,20 +35,58 @@ impl Node {
         };
         self.made = cell.number;
         self.called = task.number;
-        self.make_ready(asker.task, asker.cell, asker.place, Ok(Value::Future(cell)))?;
-        if process == self.id {
+        match self.make_ready(asker.task, asker.cell, asker.place, Ok(Value::Future(cell))) {
+            Ok(()) => self.call_at(cell, task, code, args),
+            Err(refused) => {
+                drop((code, args));
+                Err(refused)
+            }
+        }
+    }
+
+    /// The task is called where its cell is.
+    fn call_at(
+        &mut self,
+        cell: RefId,
+        task: TaskId,
+        code: Closure,
+        args: Items<Value>,
+    ) -> Result<(), OutOfMemory>
+        ensures step { OnOk result (Makes self.old (if cell.owner == id_of self.old then spec.called_here (node_of self.old) cell task code args else spec.called_there (node_of self.old) cell task code args) self.new) }
+        ensures id { id_of self.new ≡ id_of self.old }
+    {
+        if cell.owner == self.id {
             return self.call_here(cell, task, code, args);
         }
-        self.send(process, Msg::Begin { cell })?;
-        self.send(
-            process,
-            Msg::Call {
-                cell,
-                task,
-                code,
-                args,
-            },
-        )
+        self.call_there(cell, task, code, args)
+    }
+
+    /// The task is to run on another process.
+    fn call_there(
+        &mut self,
+        cell: RefId,
+        task: TaskId,
+        code: Closure,
+        args: Items<Value>,
+    ) -> Result<(), OutOfMemory>
+        ensures step { OnOk result (Makes self.old (spec.called_there (node_of self.old) cell task code args) self.new) }
+        ensures id { id_of self.new ≡ id_of self.old }
+    {
+        match self.send(cell.owner, Msg::Begin { cell }) {
+            Ok(()) => self.send(
+                cell.owner,
+                Msg::Call {
+                    cell,
+                    task,
+                    code,
+                    args,
+                },
+            ),
+            Err(refused) => {
+                drop((code, args));
+                Err(refused)
+            }
+        }
     }
 
     /// The task runs on this process, and starts at once.

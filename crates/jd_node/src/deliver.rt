@@ -1,10 +1,11 @@
 //! A message arrives.
-ghost use Rattle.std.specs.Prelude.{◌≡◌, OnOk, IfErr, IfOk, ◌++◌, ◌∷◌, [], Some, Ok};
+ghost use Rattle.std.specs.Prelude.{◌≡◌, OnOk, IfErr, IfOk, ◌++◌, ◌∷◌, [], Some, Ok, is_some};
 ghost use Rattle.jd_model.specs.Node as spec;
 ghost use Rattle.jd_node.specs.declared.fault.NodeFault.TheVariants.{OutOfMemory};
 ghost use Rattle.jd_value.specs.declared.value.Value.TheVariants.{Nothing};
 ghost use Rattle.jd_task.specs.Places.{called_place};
-ghost use Rattle.jd_model.specs.declared.mark.Effect.TheVariants.{Started};
+ghost use Rattle.jd_model.specs.declared.mark.Effect.TheVariants.{Started, Returned};
+ghost use Rattle.jd_node.specs.Steps.{given_to};
 ghost use Rattle.jd_node.specs.View.{node_of, effects_of, id_of, stepped_of, Makes};
 
 use crate::fault::NodeFault;
@@ -119,10 +120,40 @@ impl Node {
         ensures step { OnOk result (Makes self.old (spec.answered_task (node_of self.old) task cell outcome ((node_of self.old).tasks task.process task.number)) self.new) }
         ensures id { id_of self.new ≡ id_of self.old }
     {
-        let answer = copy_outcome(&outcome)?;
-        if !self.give(task, answer)? {
-            return Ok(());
+        match self.give_copy(task, &outcome) {
+            Ok(true) => self.learn_returned(task, cell, outcome),
+            Ok(false) => {
+                drop(outcome);
+                Ok(())
+            }
+            Err(refused) => {
+                drop(outcome);
+                Err(refused)
+            }
         }
+    }
+
+    /// A task that waits can go on with this outcome. Answers whether it runs here.
+    fn give_copy(&mut self, task: TaskId, outcome: &Outcome) -> Result<bool, NoMemory>
+        ensures here { IfOk result (λ here. here ≡ is_some ((node_of self.old).tasks task.process task.number)) }
+        ensures node { OnOk result (node_of self.new ≡ given_to (node_of self.old) task outcome.now ((node_of self.old).tasks task.process task.number)) }
+        ensures effects { effects_of self.new ≡ effects_of self.old }
+        ensures id { id_of self.new ≡ id_of self.old }
+    {
+        let answer = copy_outcome(outcome)?;
+        self.give(task, answer)
+    }
+
+    /// The outcome that was returned to a task is learnt.
+    fn learn_returned(
+        &mut self,
+        task: TaskId,
+        cell: RefId,
+        outcome: Outcome,
+    ) -> Result<(), NoMemory>
+        ensures step { OnOk result (Makes self.old (record { node = spec.learnt (node_of self.old) cell outcome; effects = Returned task ∷ [] }) self.new) }
+        ensures id { id_of self.new ≡ id_of self.old }
+    {
         self.learn(cell, outcome)?;
         self.note(Effect::Returned(task))
     }

@@ -1,8 +1,8 @@
 //! A task ends.
-ghost use Rattle.std.specs.Prelude.{◌≡◌, OnOk, IfOk, is_some};
+ghost use Rattle.std.specs.Prelude.{◌≡◌, OnOk, IfOk, is_some, Some};
 ghost use Rattle.jd_model.specs.Machine as machine;
 ghost use Rattle.jd_model.specs.Node as spec;
-ghost use Rattle.jd_node.specs.View.{node_of, id_of, stepped_of, Makes};
+ghost use Rattle.jd_node.specs.View.{node_of, effects_of, id_of, stepped_of, Makes};
 ghost use Rattle.jd_node.specs.Steps.{all_woken};
 
 use crate::node::Node;
@@ -32,11 +32,17 @@ impl Node {
                 self.main_end = Some(outcome);
                 Ok(())
             }
-            Some(cell) => {
-                let outcome = passed_on(self.alloc, self.id, outcome)?;
-                self.set_once(cell, outcome)
-            }
+            Some(cell) => self.end_called(cell, outcome),
         }
+    }
+
+    /// A task that was called came to its end.
+    fn end_called(&mut self, cell: RefId, outcome: Outcome) -> Result<(), OutOfMemory>
+        ensures step { OnOk result (Makes self.old (spec.ended (id_of self.old) (node_of self.old) (Some cell) outcome) self.new) }
+        ensures id { id_of self.new ≡ id_of self.old }
+    {
+        let outcome = passed_on(self.alloc, self.id, outcome)?;
+        self.set_once(cell, &outcome)
     }
 
     fn is_set(&self, cell: RefId) -> bool
@@ -48,9 +54,17 @@ impl Node {
         }
     }
 
+    fn put_copy(&mut self, cell: RefId, outcome: &Outcome) -> Result<(), OutOfMemory>
+        ensures node { OnOk result (node_of self.new ≡ spec.with_cell (node_of self.old) cell (Some (Some outcome.now))) }
+        ensures effects { effects_of self.new ≡ effects_of self.old }
+        ensures id { id_of self.new ≡ id_of self.old }
+    {
+        self.put_cell(cell, Some(copy_outcome(outcome)?))
+    }
+
     /// A cell that isn't set gets its outcome, and those that wait for it are answered.
-    fn set_once(&mut self, cell: RefId, outcome: Outcome) -> Result<(), OutOfMemory>
-        ensures step { OnOk result (Makes self.old (spec.set_once_at (id_of self.old) (node_of self.old) cell outcome (spec.stored_at (node_of self.old) cell)) self.new) }
+    fn set_once(&mut self, cell: RefId, outcome: &Outcome) -> Result<(), OutOfMemory>
+        ensures step { OnOk result (Makes self.old (spec.set_once_at (id_of self.old) (node_of self.old) cell outcome.now (spec.stored_at (node_of self.old) cell)) self.new) }
         ensures id { id_of self.new ≡ id_of self.old }
     {
         if self.is_set(cell) {
@@ -58,8 +72,8 @@ impl Node {
         }
         let asks = self.waits.asks_at(self.alloc, cell)?;
         self.waits.forget(cell);
-        self.put_cell(cell, Some(copy_outcome(&outcome)?))?;
-        self.wake_all(asks.as_slice(), &outcome)
+        self.put_copy(cell, outcome)?;
+        self.wake_all(asks.as_slice(), outcome)
     }
 
     /// These requests have this answer, in their order.

@@ -1,6 +1,8 @@
 //! A task has gone on to its next operation or to its end.
 ghost use Rattle.std.specs.Prelude.{◌≡◌, OnOk, IfErr, ◌↔◌, Err, ◌++◌, ◌∷◌, [], ◌<◌, ◌+◌, ◌^◌, Some, None, Ok, true, false};
 ghost use Rattle.jd_model.specs.declared.mark.Effect.TheVariants.{Ran};
+ghost use Rattle.jd_model.specs.Asking.{asking};
+ghost use Rattle.jd_model.specs.Machine.{is_main};
 ghost use Rattle.jd_model.specs.Node as spec;
 ghost use Rattle.jd_node.specs.declared.fault.NodeFault.TheVariants as fault;
 ghost use Rattle.jd_node.specs.View.{node_of, effects_of, id_of, stepped_of, Makes};
@@ -9,7 +11,7 @@ ghost use Rattle.jd_node.specs.Steps.{passes, passes_at, greatest};
 use crate::fault::NodeFault;
 use crate::node::Node;
 use jd_model::{Asking, Effect, Stage};
-use jd_task::{Evaluated, Place, TaskId, Turn};
+use jd_task::{Evaluated, Op, Place, TaskId, Turn};
 use jd_value::{OutOfMemory, Outcome, RefId};
 
 /// A task that asks an operation, at the place where it asks.
@@ -37,21 +39,33 @@ impl Node {
             turn,
         } = done;
         match turn {
-            Turn::Ended(outcome) => match self.end_of(task, cell, outcome) {
-                Ok(()) => Ok(()),
-                Err(_) => Err(NodeFault::OutOfMemory),
-            },
-            Turn::Asks(op) => {
-                let is_main = task.process == 1 && task.number == 0;
-                let asking = Asking::of(self.workers, self.noticed.as_slice(), is_main, op);
-                if self.passes(&asking) {
-                    return Err(NodeFault::Limit);
-                }
-                match self.want_of(Asker { task, cell, place }, asking) {
+            Turn::Ended(outcome) => {
+                drop(place);
+                match self.end_of(task, cell, outcome) {
                     Ok(()) => Ok(()),
                     Err(_) => Err(NodeFault::OutOfMemory),
                 }
             }
+            Turn::Asks(op) => self.ask(Asker { task, cell, place }, op),
+        }
+    }
+
+    /// A step of a task is done, at an operation, unless a number of the process would have to rise above the greatest.
+    fn ask(&mut self, asker: Asker, op: Op) -> Result<(), NodeFault>
+        ensures step { OnOk result (Makes self.old (spec.behind (Ran asker.task ∷ []) (spec.wants (id_of self.old) (node_of self.old) asker.task asker.cell asker.place (asking (node_of self.old).workers (node_of self.old).noticed (is_main asker.task) op))) self.new) }
+        ensures limit { (result ≡ Err fault.Limit) ↔ (passes_at (node_of self.old) (asking (node_of self.old).workers (node_of self.old).noticed (is_main asker.task) op) ≡ true) }
+        ensures unchanged { IfErr result (λ e. e ≡ fault.Limit → node_of self.new ≡ node_of self.old) }
+        ensures id { id_of self.new ≡ id_of self.old }
+    {
+        let is_main = asker.task.process == 1 && asker.task.number == 0;
+        let asking = Asking::of(self.workers, self.noticed.as_slice(), is_main, op);
+        if self.passes(&asking) {
+            drop((asker, asking));
+            return Err(NodeFault::Limit);
+        }
+        match self.want_of(asker, asking) {
+            Ok(()) => Ok(()),
+            Err(_) => Err(NodeFault::OutOfMemory),
         }
     }
 
@@ -75,8 +89,13 @@ impl Node {
         ensures step { OnOk result (Makes self.old (spec.behind (Ran asker.task ∷ []) (spec.wants (id_of self.old) (node_of self.old) asker.task asker.cell asker.place asking)) self.new) }
         ensures id { id_of self.new ≡ id_of self.old }
     {
-        self.note(Effect::Ran(asker.task))?;
-        self.want(asker, asking)
+        match self.note(Effect::Ran(asker.task)) {
+            Ok(()) => self.want(asker, asking),
+            Err(refused) => {
+                drop((asker, asking));
+                Err(refused)
+            }
+        }
     }
 
     /// Whether a number of the process would have to rise above the greatest.

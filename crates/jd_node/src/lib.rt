@@ -22,8 +22,6 @@ mod rows;
 mod run;
 mod show;
 mod tasks;
-#[cfg(test)]
-mod tests;
 mod waits;
 
 pub use fault::NodeFault;

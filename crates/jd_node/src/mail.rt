@@ -1,5 +1,5 @@
 //! Messages that wait, in a queue for each process.
-ghost use Rattle.std.specs.Prelude.{◌≡◌, ◌≢◌, ℕ, OnOk, MatchOption, MatchBool, List, [], ◌∷◌, ◌++◌};
+ghost use Rattle.std.specs.Prelude.{◌≡◌, ◌≢◌, ℕ, OnOk, MatchOption, MatchBool, IfOk, List, [], ◌∷◌, ◌++◌};
 ghost use Rattle.jd_task.specs.declared.msg.Msg.{Msg as Message};
 ghost use Rattle.jd_model.specs.Table.{put};
 ghost use Rattle.jd_node.specs.Mail.{mail_of, no_mail};
@@ -14,6 +14,14 @@ use std::collections::{BTreeMap, VecDeque};
 pub struct Mail {
     alloc: Global,
     queues: BTreeMap<u32, VecDeque<Msg>>,
+}
+
+fn queue_of(alloc: Global, msg: Msg) -> Result<VecDeque<Msg>, OutOfMemory>
+    ensures { IfOk result (λ queue. queue.items ≡ msg ∷ []) }
+{
+    let mut queue = VecDeque::new(alloc);
+    queue.push_back(msg)?;
+    Ok(queue)
 }
 
 #[tactic(auto, unfolding(crate::specs::Mail::mail_of))]
@@ -35,9 +43,14 @@ impl Mail {
             queue.push_back(msg)?;
             return Ok(());
         }
-        let mut queue = VecDeque::new(self.alloc);
-        queue.push_back(msg)?;
-        self.queues.insert(process, queue)?;
+        let queue = queue_of(self.alloc, msg)?;
+        self.set_queue(process, queue)
+    }
+
+    fn set_queue(&mut self, process: u32, queue: VecDeque<Msg>) -> Result<(), OutOfMemory>
+        ensures { OnOk result (mail_of self.new ≡ put (mail_of self.old) process queue.items) }
+    {
+        drop(self.queues.insert(process, queue)?);
         Ok(())
     }
 

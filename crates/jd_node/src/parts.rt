@@ -59,8 +59,9 @@ impl Node {
         ensures effects { effects_of self.new ≡ effects_of self.old }
         ensures id { id_of self.new ≡ id_of self.old }
     {
+        self.rest(task, cell, place, Stage::Ready(answer))?;
         self.ready.push_back(task)?;
-        self.rest(task, cell, place, Stage::Ready(answer))
+        Ok(())
     }
 
     /// A task that waits can go on with this answer. Answers whether it runs here.

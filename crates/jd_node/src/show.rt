@@ -60,10 +60,15 @@ impl Node {
         ensures effects { IfOk result (λ n. effects_of n ≡ []) }
         ensures id { IfOk result (λ n. id_of n ≡ 1) }
     {
-        let mut node = Node::new(alloc, 1, workers);
         let place = Place::of_main(alloc, program)?;
-        node.make_ready(MAIN, None, place, Ok(Value::Nothing))?;
-        Ok(node)
+        let mut node = Node::new(alloc, 1, workers);
+        match node.make_ready(MAIN, None, place, Ok(Value::Nothing)) {
+            Ok(()) => Ok(node),
+            Err(refused) => {
+                drop(node);
+                Err(refused)
+            }
+        }
     }
 
     /// The number of the process.

@@ -35,7 +35,7 @@ impl Tasks {
     pub fn put(&mut self, task: TaskId, row: Running) -> Result<(), OutOfMemory>
         ensures { OnOk result (tasks_of self.new ≡ put2 (tasks_of self.old) task.process task.number (Some row)) }
     {
-        self.rows.insert(task, row)?;
+        drop(self.rows.insert(task, row)?);
         Ok(())
     }
 
@@ -53,7 +53,10 @@ impl Tasks {
         ensures set { tasks_of self.new ≡ staged (tasks_of self.old) task stage (tasks_of self.old task.process task.number) }
     {
         match self.rows.get_mut(&task) {
-            None => false,
+            None => {
+                drop(stage);
+                false
+            }
             Some(row) => {
                 row.stage = stage;
                 true

@@ -48,9 +48,10 @@ impl Cells {
         ensures { OnOk result (cells_of self.new ≡ put3 (cells_of self.old) cell.maker cell.number cell.owner (settled (cells_of self.old cell.maker cell.number cell.owner) outcome)) }
     {
         if self.outcome(cell).is_some() {
+            drop(outcome);
             return Ok(());
         }
-        self.held.insert(cell, Some(outcome))?;
+        drop(self.held.insert(cell, Some(outcome))?);
         Ok(())
     }
 }

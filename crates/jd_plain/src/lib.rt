@@ -24,8 +24,6 @@ mod stopped;
 mod take;
 mod task;
 mod tasks;
-#[cfg(test)]
-mod tests;
 mod want;
 
 pub use not_taken::NotTaken;

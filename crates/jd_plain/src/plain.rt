@@ -5,11 +5,10 @@ use crate::cells::Cells;
 use crate::counts::Counts;
 use crate::fetched::Fetched;
 use crate::requests::Requests;
-use crate::task::Task;
 use crate::tasks::Tasks;
-use jd_model::{Ending, Life, Loss, Stage, Start};
-use jd_task::{Place, TaskId};
-use jd_value::{OutOfMemory, Program, Txt, Value};
+use jd_model::{Ending, Loss, Start};
+use jd_task::TaskId;
+use jd_value::{OutOfMemory, Program, Txt};
 use sqlite_items::Items;
 use std::alloc::Global;
 
@@ -54,22 +53,13 @@ impl Plain {
         ensures state { IfOk result (λ plain. state_of plain ≡ first program.now start.now) }
         ensures whole { IfOk result (λ plain. is_broken plain ≡ false) }
     {
-        let main = Task {
-            home: 1,
-            cell: None,
-            life: Life::Running {
-                place: Place::of_main(alloc, program)?,
-                stage: Stage::Ready(Ok(Value::Nothing)),
-            },
-        };
-        let mut tasks = Tasks::new(alloc);
-        tasks.put(MAIN, main)?;
-        let mut running = Vec::new(alloc);
-        running.push(MAIN)?;
+        let losses = Items::from_slice(alloc, start.losses.as_slice())?;
+        let running = [MAIN].to_vec(alloc)?;
+        let tasks = Tasks::with_main(alloc, program)?;
         Ok(Plain {
             alloc,
             workers: start.workers,
-            losses: Items::from_slice(alloc, start.losses.as_slice())?,
+            losses,
             tasks,
             requests: Requests::new(alloc),
             cells: Cells::new(alloc),

@@ -46,8 +46,9 @@ impl Requests {
     pub fn set_answer(&mut self, ask: Ask, answer: Answer)
         ensures { requests_of self.new ≡ put2 (requests_of self.old) ask.process ask.number (option_map (answered_with answer) (requests_of self.old ask.process ask.number)) }
     {
-        if let Some(held) = self.held.get_mut(&ask) {
-            held.answer = answer;
+        match self.held.get_mut(&ask) {
+            Some(held) => held.answer = answer,
+            None => drop(answer),
         }
     }
 }

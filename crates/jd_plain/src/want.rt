@@ -1,7 +1,8 @@
 //! What tasks come to: operations that they ask, and ends.
-ghost use Rattle.std.specs.Prelude.{◌≡◌, ◌+◌, IfOk, OnOk, filter, not};
+ghost use Rattle.std.specs.Prelude.{◌≡◌, ◌+◌, IfOk, OnOk, None, Some, filter, not};
 ghost use Rattle.jd_model.specs.Machine as machine;
 ghost use Rattle.jd_model.specs.declared.life.Life.TheVariants as running;
+ghost use Rattle.jd_model.specs.Table.{put, put2, put3};
 ghost use Rattle.jd_plain.specs.State.{state_of};
 ghost use Rattle.jd_plain.specs.Steps.{going_task};
 
@@ -122,14 +123,33 @@ impl Plain {
     fn ask(&mut self, going: Going, place: Place, cell: RefId) -> Result<(), OutOfMemory>
         ensures { OnOk result (state_of self.new ≡ machine.asks_for (state_of self.old) going.task (going_task going) place cell ((state_of self.old).asked going.home + 1)) }
     {
-        let number = next(self.asked.get(going.home))?;
+        match next(self.asked.get(going.home)) {
+            Ok(number) => self.ask_as(going, place, cell, number),
+            Err(refused) => {
+                drop(place);
+                Err(refused)
+            }
+        }
+    }
+
+    /// A task asks for a cell's outcome, by a request of this number.
+    fn ask_as(
+        &mut self,
+        going: Going,
+        place: Place,
+        cell: RefId,
+        number: u64,
+    ) -> Result<(), OutOfMemory>
+        ensures { OnOk result (state_of self.new ≡ machine.asks_for (state_of self.old) going.task (going_task going) place cell number) }
+    {
+        let is_here = self.fetched.has(going.home, cell);
+        self.put_stage(going, place, Stage::Waits(number))?;
         let request = Request {
             task: going.task,
             cell,
-            is_here: self.fetched.has(going.home, cell),
+            is_here,
             answer: Answer::Asked,
         };
-        self.put_stage(going, place, Stage::Waits(number))?;
         self.requests.put(
             Ask {
                 process: going.home,
@@ -154,27 +174,80 @@ impl Plain {
             (record { maker = going.home; number = (state_of self.old).made going.home + 1; owner = process })
             (record { process = going.home; number = (state_of self.old).called going.home + 1 }) code args) }
     {
+        match self.next_names(going.home, process) {
+            Ok((cell, called)) => self.call_as(going, place, cell, called, code, args),
+            Err(refused) => {
+                drop((place, code, args));
+                Err(refused)
+            }
+        }
+    }
+
+    /// The names of the next cell that a process makes for that owner, and of the next task that it calls.
+    fn next_names(&self, home: u32, owner: u32) -> Result<(RefId, TaskId), OutOfMemory>
+        ensures cell { IfOk result (λ names. names.0 ≡ record { maker = home; number = (state_of self.now).made home + 1; owner = owner }) }
+        ensures task { IfOk result (λ names. names.1 ≡ record { process = home; number = (state_of self.now).called home + 1 }) }
+    {
         let cell = RefId {
-            maker: going.home,
-            number: next(self.made.get(going.home))?,
-            owner: process,
+            maker: home,
+            number: next(self.made.get(home))?,
+            owner,
         };
         let called = TaskId {
-            process: going.home,
-            number: next(self.called.get(going.home))?,
+            process: home,
+            number: next(self.called.get(home))?,
         };
-        self.put_stage(going, place, Stage::Ready(Ok(Value::Future(cell))))?;
+        Ok((cell, called))
+    }
+
+    /// A task calls another of that name, and has the future of its cell at once.
+    fn call_as(
+        &mut self,
+        going: Going,
+        place: Place,
+        cell: RefId,
+        called: TaskId,
+        code: Closure,
+        args: Items<Value>,
+    ) -> Result<(), OutOfMemory>
+        ensures { OnOk result (state_of self.new ≡ machine.calls (state_of self.old) going.task (going_task going) place cell called code args) }
+    {
+        match self.put_stage(going, place, Stage::Ready(Ok(Value::Future(cell)))) {
+            Ok(()) => self.put_called(going.home, cell, called, code, args),
+            Err(refused) => {
+                drop((code, args));
+                Err(refused)
+            }
+        }
+    }
+
+    /// Puts a task in that this process called, and its cell.
+    fn put_called(
+        &mut self,
+        home: u32,
+        cell: RefId,
+        called: TaskId,
+        code: Closure,
+        args: Items<Value>,
+    ) -> Result<(), OutOfMemory>
+        ensures { OnOk result (state_of self.new ≡ record (state_of self.old) {
+          tasks = put2 (state_of self.old).tasks called.process called.number (Some (record { home = cell.owner; cell = Some cell; life = running.Called code args }));
+          cells = put3 (state_of self.old).cells cell.maker cell.number cell.owner (Some None);
+          made = put (state_of self.old).made home cell.number;
+          called = put (state_of self.old).called home called.number;
+        }) }
+    {
         self.tasks.put(
             called,
             Task {
-                home: process,
+                home: cell.owner,
                 cell: Some(cell),
                 life: Life::Called { code, args },
             },
         )?;
         self.cells.make(cell)?;
-        self.made.put(going.home, cell.number)?;
-        self.called.put(going.home, called.number)?;
+        self.made.put(home, cell.number)?;
+        self.called.put(home, called.number)?;
         Ok(())
     }
 

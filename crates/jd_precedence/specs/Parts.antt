@@ -55,6 +55,10 @@ abbrev pub channel_from : Signs → Option (Token × Token) → Option Token →
 channel_from s (Some ns) (Some f) true (Some w) = if is_word word.RemoteChannel f.kind && is_word word.Channel w.kind then Some (a_channel s ns f w) else None
 channel_from s _ _ _ _ = None
 
+-- the same by the whole of what stands before the `{`
+abbrev pub channel_in : Token → Syntax → Token → Bracket → Items → Token → Syntax → Option Channel
+channel_in o ns a b es t e = channel_from (record { opens = o; arrow = a; brace = t }) (empty_group_in ns) (callee_token b) (are_none es) (leaf_token_in e)
+
 abbrev pub awaits_type : List Frame → Option Channel → Option State
 awaits_type fs None = None
 awaits_type fs (Some c) = Some (await fs (element_type c))

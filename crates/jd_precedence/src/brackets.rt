@@ -1,17 +1,18 @@
 //! Reads what stands behind an operand in parentheses or brackets.
-ghost use Rattle.std.specs.Prelude.{◌≡◌, true};
+ghost use Rattle.std.specs.Prelude.{◌≡◌, true, IfOk};
 ghost use Rattle.jd_grammar.specs.Rows.{is_chain};
 ghost use Rattle.jd_grammar.specs.Grammar.{itemed, none};
 ghost use Rattle.jd_grammar.specs.Grammar as grammar;
+ghost use Rattle.jd_grammar.specs.Frames as machine_frames;
 ghost use Rattle.jd_grammar.specs.Machine as machine;
-ghost use Rattle.jd_tree.specs.Code.{plain_measured, plain_arguments, plain_bracket};
+ghost use Rattle.jd_tree.specs.Code.{plain_measured, plain_arguments, plain_bracket, plain_maybe};
 ghost use Rattle.jd_precedence.specs.Parts.{is_first_element};
-ghost use Rattle.jd_precedence.specs.State.{plain_frames, Steps};
+ghost use Rattle.jd_precedence.specs.State.{plain_frames, plain_now, Steps};
 
 use crate::frames::{Comprehension, Fixed, Frame, Listing, Now, Words};
-use crate::parts::rows_in;
+use crate::parts::{begun_rows, rows_in};
 use crate::stack::Stack;
-use crate::stop::{Stop, refuse};
+use crate::stop::{Stop, refuse, stopped};
 use jd_grammar::token::{Kind, Token};
 use jd_tree::brackets::{
     bracket_of, is_closer, is_row, is_separator, is_shape, touches, with_item,
@@ -19,9 +20,9 @@ use jd_tree::brackets::{
 use jd_tree::build::leaf_of;
 use jd_tree::measured::{Arguments, Bracket, Measured};
 use jd_tree::parts::no_generators;
-use jd_tree::rows::{are_begun, is_full, matrix_of, may_go_on, split, with_atom};
+use jd_tree::rows::{is_full, matrix_of, may_go_on, split, with_atom};
 use sqlite_items::Boxed;
-use std::alloc::Global;
+use std::alloc::{AllocError, Global};
 
 /// Whether it is a bracket whose first element is read.
 pub fn is_first(listing: &Listing) -> bool
@@ -67,7 +68,10 @@ fn item_step(
         opens,
         most,
     } = listing;
-    let most = with_item(most, operand, token)?;
+    let most = match with_item(most, operand, token) {
+        Ok(most) => most,
+        Err(_) => return stopped(bracket, Stop::OutOfMemory),
+    };
     frames.push(Frame::Fixed(Fixed::InBracket(Listing {
         bracket,
         opens,
@@ -94,6 +98,24 @@ fn row_end(
     Ok(Now::Got(matrix_of(alloc, opens, atoms, token)?))
 }
 
+/// Ends parentheses or brackets.
+fn closed(
+    alloc: Global,
+    listing: Listing,
+    last: Option<Measured>,
+    token: Token,
+) -> Result<Now, AllocError>
+    ensures { let whole = grammar.bracket (plain_bracket listing.bracket) listing.opens (plain_arguments listing.most) (plain_maybe last) token in
+        IfOk result (λ n. plain_now n ≡ machine_frames.got whole) }
+{
+    let Listing {
+        bracket,
+        opens,
+        most,
+    } = listing;
+    Ok(Now::Got(bracket_of(alloc, bracket, opens, most, last, token)?))
+}
+
 /// Reads a closing parenthesis or bracket behind an item.
 fn close_step(
     alloc: Global,
@@ -108,15 +130,12 @@ fn close_step(
     if !is_closer(&listing.bracket, token.kind) || !touches(&operand, token) {
         return refuse((listing, operand));
     }
-    let Listing {
-        bracket,
-        opens,
-        most,
-    } = listing;
-    if !takes_last(&bracket, &most, &operand) {
+    if !takes_last(&listing.bracket, &listing.most, &operand) {
+        let opens = listing.opens;
+        drop(listing);
         return row_end(alloc, frames, opens, token, operand);
     }
-    Ok(Now::Got(bracket_of(alloc, bracket, opens, most, Some(operand), token)?))
+    Ok(closed(alloc, listing, Some(operand), token)?)
 }
 
 /// Reads a second atom behind a bracket's first element: it is a matrix.
@@ -134,10 +153,7 @@ fn begin_rows(
     }
     let atoms = split(alloc, operand)?;
     let atoms = with_atom(atoms, None, leaf_of(token))?;
-    if !are_begun(&atoms) {
-        return refuse(atoms);
-    }
-    Ok(rows_in(alloc, opens, atoms, None)?)
+    begun_rows(alloc, frames, opens, atoms)
 }
 
 /// Reads a number or a name behind an item.
@@ -153,7 +169,9 @@ fn second_step(
         Steps (next token (plain_frames frames.now) (plain_measured operand)) frames.now result }
 {
     if is_first(&listing) {
-        begin_rows(alloc, frames, listing.opens, token, operand)
+        let opens = listing.opens;
+        drop(listing);
+        begin_rows(alloc, frames, opens, token, operand)
     } else {
         refuse((listing, operand))
     }
@@ -192,7 +210,9 @@ fn semicolon_step(
         Steps (next token (plain_frames frames.old) (plain_measured operand)) frames.new result }
 {
     if is_first(&listing) {
-        end_first_row(alloc, frames, listing.opens, token, operand)
+        let opens = listing.opens;
+        drop(listing);
+        end_first_row(alloc, frames, opens, token, operand)
     } else {
         item_step(frames, listing, token, operand)
     }
@@ -230,7 +250,9 @@ fn for_step(
         Steps (next token (plain_frames frames.now) (plain_measured operand)) frames.now result }
 {
     if is_first(&listing) {
-        begin_generators(alloc, frames, listing.opens, token, operand)
+        let opens = listing.opens;
+        drop(listing);
+        begin_generators(alloc, frames, opens, token, operand)
     } else {
         refuse((listing, operand))
     }
@@ -272,10 +294,5 @@ pub fn empty_step(
     {
         return refuse(listing);
     }
-    let Listing {
-        bracket,
-        opens,
-        most,
-    } = listing;
-    Ok(Now::Got(bracket_of(alloc, bracket, opens, most, None, token)?))
+    Ok(closed(alloc, listing, None, token)?)
 }

@@ -1,5 +1,5 @@
 //! Ends what stands open behind an operand.
-ghost use Rattle.std.specs.Prelude.{◌≡◌, IfOk};
+ghost use Rattle.std.specs.Prelude.{◌≡◌, ◌∷◌, IfOk, OnOk};
 ghost use Rattle.jd_precedence.specs.State.{Closes};
 
 use crate::frames::Frame;
@@ -8,6 +8,24 @@ use jd_tree::build::ending_of;
 use jd_tree::heads::level_of;
 use jd_tree::measured::Measured;
 use std::alloc::{AllocError, Global};
+
+/// Puts the innermost frame back, behind which the operand stands.
+fn put_back(
+    frames: &mut Stack<Frame>,
+    frame: Frame,
+    operand: Measured,
+) -> Result<Measured, AllocError>
+    ensures frames { OnOk result (frames.new ≡ frame ∷ frames.old) }
+    ensures operand { IfOk result (λ e. e ≡ operand) }
+{
+    match frames.push(frame) {
+        Ok(()) => Ok(operand),
+        Err(error) => {
+            drop(operand);
+            Err(error)
+        }
+    }
+}
 
 /// Ends what binds at least as tightly as `bound`; 0 ends all but what a token of its own ends.
 pub fn close_all(
@@ -23,15 +41,11 @@ pub fn close_all(
         match top {
             Frame::OpenEnd(head) => {
                 if bound > level_of(&head) {
-                    frames.push(Frame::OpenEnd(head))?;
-                    return Ok(operand);
+                    return put_back(frames, Frame::OpenEnd(head), operand);
                 }
                 operand = ending_of(alloc, head, operand)?;
             }
-            Frame::Fixed(fixed) => {
-                frames.push(Frame::Fixed(fixed))?;
-                return Ok(operand);
-            }
+            Frame::Fixed(fixed) => return put_back(frames, Frame::Fixed(fixed), operand),
         }
     }
     Ok(operand)

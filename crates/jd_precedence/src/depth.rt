@@ -1,5 +1,5 @@
 //! How deep the shallowest expression nests that begins with what was read.
-ghost use Rattle.std.specs.Prelude.{◌≡◌, List, IsTrue, drop, false, max};
+ghost use Rattle.std.specs.Prelude.{◌≡◌, ◌∷◌, List, IsTrue, drop, false, max};
 ghost use Rattle.jd_grammar.specs.declared.token.Token.{Token};
 ghost use Rattle.jd_grammar.specs.Grammar.{Channel, Syntax, ending, itemed, none, remote};
 ghost use Rattle.jd_grammar.specs.Grammar as grammar;
@@ -232,24 +232,31 @@ fn words_profile(words: &Words) -> Profile
     }
 }
 
+/// The operator that is innermost, where it may still be the argument of a call.
+fn argument_in(frames: &Stack<Frame>, sign: Token) -> Option<Token>
+    ensures { result ≡ sign_argument (machine.open_end (grammar.unary sign) ∷ plain_frames (drop 1 frames.now)) }
+{
+    match frames.below(1) {
+        Some(Frame::Fixed(Fixed::InBracket(listing))) => match &listing.bracket {
+            Bracket::Called(_) => {
+                if is_argument(sign.kind) {
+                    Some(sign)
+                } else {
+                    None
+                }
+            }
+            Bracket::Grouped | Bracket::Itemed | Bracket::Indexed(_) => None,
+        },
+        _ => None,
+    }
+}
+
 /// The operator that was read as a unary one and may still be an argument.
 fn argument_sign(frames: &Stack<Frame>) -> Option<Token>
     ensures { result ≡ sign_argument (plain_frames frames.now) }
 {
     match frames.below(0) {
-        Some(Frame::OpenEnd(Head::Unary(sign))) => match frames.below(1) {
-            Some(Frame::Fixed(Fixed::InBracket(listing))) => match &listing.bracket {
-                Bracket::Called(_) => {
-                    if is_argument(sign.kind) {
-                        Some(*sign)
-                    } else {
-                        None
-                    }
-                }
-                Bracket::Grouped | Bracket::Itemed | Bracket::Indexed(_) => None,
-            },
-            _ => None,
-        },
+        Some(Frame::OpenEnd(Head::Unary(sign))) => argument_in(frames, *sign),
         _ => None,
     }
 }

@@ -9,16 +9,16 @@ ghost use Rattle.jd_precedence.specs.State.{plain_frames, plain_fixed, Steps};
 
 use crate::brackets::{bracket_step, empty_step, is_first};
 use crate::frames::{Fixed, Frame, Hold, Listing, Now, Words};
-use crate::parts::rows_in;
+use crate::parts::begun_rows;
 use crate::stack::Stack;
-use crate::stop::{Stop, refuse};
+use crate::stop::{Stop, refuse, stopped};
 use jd_grammar::token::{Kind, Token};
 use jd_tree::brackets::{item_level, no_arguments};
 use jd_tree::build::{ending_of, leaf_of, sign_of};
 use jd_tree::heads::asks_of;
 use jd_tree::kinds::{is_argument, is_least, is_minus};
 use jd_tree::measured::{Bracket, Head, Measured};
-use jd_tree::rows::{are_begun, split, with_atom};
+use jd_tree::rows::{split, with_atom};
 use std::alloc::Global;
 
 /// What stands between the tokens of a construct asks as much.
@@ -84,12 +84,33 @@ fn least_atom(
         return refuse(left);
     }
     let atoms = split(alloc, left)?;
-    let atom = ending_of(alloc, Head::Unary(minus), leaf_of(token))?;
+    let atom = match ending_of(alloc, Head::Unary(minus), leaf_of(token)) {
+        Ok(atom) => atom,
+        Err(_) => return stopped(atoms, Stop::OutOfMemory),
+    };
     let atoms = with_atom(atoms, None, atom)?;
-    if !are_begun(&atoms) {
-        return refuse(atoms);
+    begun_rows(alloc, frames, opens, atoms)
+}
+
+/// Reads 2^63 or a larger number behind a binary operator in parentheses or brackets.
+#[tactic(auto, using(crate::proofs::First::wide_other))]
+fn wide_item(
+    alloc: Global,
+    frames: &Stack<Frame>,
+    left: Measured,
+    operator: Token,
+    listing: Listing,
+    token: Token,
+) -> Result<Now, Stop>
+    ensures { let item = fixed (in_bracket (plain_bracket listing.bracket) listing.opens (plain_arguments listing.most)) in
+        Steps (machine.wide_step token (open_end (grammar.binary (plain_measured left) operator) ∷ item ∷ plain_frames frames.now)) frames.now result }
+{
+    if !is_first(&listing) {
+        return refuse((left, listing));
     }
-    Ok(rows_in(alloc, opens, atoms, None)?)
+    let opens = listing.opens;
+    drop(listing);
+    least_atom(alloc, frames, left, operator, opens, token)
 }
 
 /// Reads 2^63 or a larger number behind a binary operator.
@@ -103,14 +124,24 @@ fn wide_operand(
     ensures { Steps (machine.wide_step token (open_end (grammar.binary (plain_measured left) operator) ∷ plain_frames frames.old)) frames.new result }
 {
     match frames.pop() {
-        Some(Frame::Fixed(Fixed::InBracket(listing))) => {
-            if !is_first(&listing) {
-                return refuse((left, listing));
-            }
-            least_atom(alloc, frames, left, operator, listing.opens, token)
-        }
-        other => refuse((left, other)),
+        Some(Frame::Fixed(fixed)) => match fixed {
+            Fixed::InBracket(listing) => wide_item(alloc, frames, left, operator, listing, token),
+            fixed => refuse((left, fixed)),
+        },
+        Some(Frame::OpenEnd(head)) => refuse((left, head)),
+        None => refuse(left),
     }
+}
+
+/// Reads 2^63 or a larger number behind a sign.
+fn wide_signed(frames: &mut Stack<Frame>, sign: Token, token: Token) -> Result<Now, Stop>
+    ensures { Steps (machine.wide_step token (open_end (grammar.unary sign) ∷ plain_frames frames.old)) frames.new result }
+{
+    if !is_minus(sign.kind) || !is_least(token.kind, token.spaced) {
+        return Err(Stop::Refused);
+    }
+    frames.push(Frame::OpenEnd(Head::Unary(sign)))?;
+    Ok(Now::Got(leaf_of(token)))
 }
 
 /// Reads 2^63 or a larger number.
@@ -118,18 +149,35 @@ fn wide_step(alloc: Global, frames: &mut Stack<Frame>, token: Token) -> Result<N
     ensures { Steps (machine.wide_step token (plain_frames frames.old)) frames.new result }
 {
     match frames.pop() {
-        Some(Frame::OpenEnd(Head::Unary(sign))) => {
-            if !is_minus(sign.kind) || !is_least(token.kind, token.spaced) {
-                return Err(Stop::Refused);
-            }
-            frames.push(Frame::OpenEnd(Head::Unary(sign)))?;
-            Ok(Now::Got(leaf_of(token)))
-        }
-        Some(Frame::OpenEnd(Head::Binary(left, operator))) => wide_operand(
-            alloc, frames, left, operator, token,
-        ),
-        other => refuse(other),
+        Some(Frame::OpenEnd(head)) => match head {
+            Head::Unary(sign) => wide_signed(frames, sign, token),
+            Head::Binary(left, operator) => wide_operand(alloc, frames, left, operator, token),
+            head => refuse(head),
+        },
+        Some(Frame::Fixed(fixed)) => refuse(fixed),
+        None => Err(Stop::Refused),
     }
+}
+
+/// Reads what no operand begins with behind an operator that may be an argument, in parentheses or brackets.
+fn sign_item(
+    alloc: Global,
+    frames: &mut Stack<Frame>,
+    sign: Token,
+    listing: Listing,
+    token: Token,
+) -> Result<Now, Stop>
+    ensures { let item = fixed (in_bracket (plain_bracket listing.bracket) listing.opens (plain_arguments listing.most)) in
+        Steps (machine.want_end token.kind token (open_end (grammar.unary sign) ∷ item ∷ plain_frames frames.old)) frames.new result }
+{
+    match &listing.bracket {
+        Bracket::Called(_) => {}
+        Bracket::Grouped | Bracket::Itemed | Bracket::Indexed(_) => return refuse(listing),
+    }
+    if !is_argument(sign.kind) {
+        return refuse(listing);
+    }
+    bracket_step(alloc, frames, listing, token, sign_of(sign))
 }
 
 /// Reads what no operand begins with behind an operator that may be an argument.
@@ -142,17 +190,12 @@ fn sign_end(
     ensures { Steps (machine.want_end token.kind token (open_end (grammar.unary sign) ∷ plain_frames frames.old)) frames.new result }
 {
     match frames.pop() {
-        Some(Frame::Fixed(Fixed::InBracket(listing))) => {
-            match &listing.bracket {
-                Bracket::Called(_) => {}
-                Bracket::Grouped | Bracket::Itemed | Bracket::Indexed(_) => return refuse(listing),
-            }
-            if !is_argument(sign.kind) {
-                return refuse(listing);
-            }
-            bracket_step(alloc, frames, listing, token, sign_of(sign))
-        }
-        other => refuse(other),
+        Some(Frame::Fixed(fixed)) => match fixed {
+            Fixed::InBracket(listing) => sign_item(alloc, frames, sign, listing, token),
+            fixed => refuse(fixed),
+        },
+        Some(Frame::OpenEnd(head)) => refuse(head),
+        None => Err(Stop::Refused),
     }
 }
 
@@ -161,9 +204,15 @@ fn want_end(alloc: Global, frames: &mut Stack<Frame>, token: Token) -> Result<No
     ensures { Steps (machine.want_end token.kind token (plain_frames frames.old)) frames.new result }
 {
     match frames.pop() {
-        Some(Frame::Fixed(Fixed::InBracket(listing))) => empty_step(alloc, frames, listing, token),
-        Some(Frame::OpenEnd(Head::Unary(sign))) => sign_end(alloc, frames, sign, token),
-        other => refuse(other),
+        Some(Frame::Fixed(fixed)) => match fixed {
+            Fixed::InBracket(listing) => empty_step(alloc, frames, listing, token),
+            fixed => refuse(fixed),
+        },
+        Some(Frame::OpenEnd(head)) => match head {
+            Head::Unary(sign) => sign_end(alloc, frames, sign, token),
+            head => refuse(head),
+        },
+        None => Err(Stop::Refused),
     }
 }
 

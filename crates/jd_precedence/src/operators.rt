@@ -6,7 +6,7 @@ ghost use Rattle.jd_grammar.specs.Frames as machine_frames;
 ghost use Rattle.jd_grammar.specs.Machine as machine;
 ghost use Rattle.jd_tree.specs.Plain.{items_of, maybe, plain, plain_channel, plain_item, plain_listing};
 ghost use Rattle.jd_tree.specs.Code.{plain_measured, plain_arguments, plain_bracket};
-ghost use Rattle.jd_precedence.specs.Parts.{leaf_token_in, empty_group_in, empty_inside, is_nothing, callee_token, channel_from, is_more, more_step};
+ghost use Rattle.jd_precedence.specs.Parts.{leaf_token_in, empty_group_in, empty_inside, is_nothing, awaits_type, callee_token, channel_from, channel_in, is_more, more_step};
 ghost use Rattle.jd_precedence.specs.State.{closed, plain_frames, plain_fixed, Steps};
 
 use crate::brackets::bracket_step;
@@ -15,7 +15,7 @@ use crate::frames::{Fixed, Frame, Listing, Now, Signs, Words};
 use crate::operands::{begin_bracket, demand};
 use crate::parts::{generator_step, group_step, middle_step, place_step, size_step};
 use crate::stack::Stack;
-use crate::stop::{Stop, refuse};
+use crate::stop::{Stop, refuse, stopped};
 use jd_grammar::token::{Kind, Token, Word};
 use jd_tree::kinds::{is_name, is_word, left_of, stands, strength_of};
 use jd_tree::measured::{Bracket, Head, Measured};
@@ -110,8 +110,13 @@ fn at_arrow(
 ) -> Result<Now, Stop>
     ensures { Steps (machine.at_arrow token (plain_frames frames.old) (plain_measured operand)) frames.new result }
 {
-    if demand(frames) > 1 || !are_parameters(alloc, &operand)? {
+    if demand(frames) > 1 {
         return refuse(operand);
+    }
+    match are_parameters(alloc, &operand) {
+        Ok(true) => {}
+        Ok(false) => return refuse(operand),
+        Err(_) => return stopped(operand, Stop::OutOfMemory),
     }
     frames.push(Frame::OpenEnd(Head::Lambda(operand, token)))?;
     Ok(Now::Wanted)
@@ -126,6 +131,7 @@ fn at_keyword(frames: &mut Stack<Frame>, token: Token, operand: Measured) -> Res
             if demand(frames) > 0 || !is_name(name.kind) {
                 return refuse(operand);
             }
+            drop(operand);
             frames.push(Frame::OpenEnd(Head::Keyword(name, token)))?;
             Ok(Now::Wanted)
         }
@@ -175,6 +181,39 @@ fn channel_of(
     }
 }
 
+/// The beginning of a channel, where there is one.
+fn channel_at(
+    lambda: &(Measured, Token),
+    listing: &Listing,
+    brace: Token,
+    operand: &Measured,
+) -> Option<Channel>
+    ensures { option_map plain_channel result ≡ channel_in listing.now.opens (plain_measured lambda.now.0) lambda.now.1 (plain_bracket listing.now.bracket) (plain_arguments listing.now.most) brace (plain_measured operand.now) }
+{
+    let signs = Signs {
+        opens: listing.opens,
+        arrow: lambda.1,
+        brace,
+    };
+    channel_of(
+        signs,
+        empty_group(&lambda.0),
+        callee_of(&listing.bracket),
+        listing.most.items.is_empty(),
+        leaf_token(operand),
+    )
+}
+
+/// What goes on behind the `{` of a channel.
+fn awaiting(alloc: Global, frames: &Stack<Frame>, channel: Option<Channel>) -> Result<Now, Stop>
+    ensures { Steps (awaits_type (plain_frames frames.now) (option_map plain_channel channel)) frames.now result }
+{
+    match channel {
+        Some(channel) => Ok(Now::Pending(Words::ElementType(Boxed::new(alloc, channel)?))),
+        None => Err(Stop::Refused),
+    }
+}
+
 /// Reads `{` behind a lambda's beginning in parentheses or brackets.
 fn begin_channel(
     alloc: Global,
@@ -188,18 +227,31 @@ fn begin_channel(
         let call = fixed (in_bracket (plain_bracket listing.bracket) listing.opens (plain_arguments listing.most)) in
         Steps (machine.at_brace token (before ∷ (call ∷ plain_frames frames.now)) (plain_measured operand)) frames.now result }
 {
-    let none = empty_group(&lambda.0);
-    let callee = callee_of(&listing.bracket);
-    let is_empty = listing.most.items.is_empty();
-    let word = leaf_token(&operand);
-    let signs = Signs {
-        opens: listing.opens,
-        arrow: lambda.1,
-        brace: token,
-    };
-    match channel_of(signs, none, callee, is_empty, word) {
-        Some(channel) => Ok(Now::Pending(Words::ElementType(Boxed::new(alloc, channel)?))),
-        None => refuse((lambda, listing, operand)),
+    let channel = channel_at(&lambda, &listing, token, &operand);
+    drop((lambda, listing, operand));
+    awaiting(alloc, frames, channel)
+}
+
+/// Reads `{` behind a lambda's beginning.
+fn lambda_brace(
+    alloc: Global,
+    frames: &mut Stack<Frame>,
+    lambda: (Measured, Token),
+    token: Token,
+    operand: Measured,
+) -> Result<Now, Stop>
+    ensures { let before = open_end (grammar.lambda (plain_measured lambda.0) lambda.1) in
+        Steps (machine.at_brace token (before ∷ plain_frames frames.old) (plain_measured operand)) frames.new result }
+{
+    match frames.pop() {
+        Some(Frame::Fixed(fixed)) => match fixed {
+            Fixed::InBracket(listing) => begin_channel(
+                alloc, frames, lambda, listing, token, operand,
+            ),
+            fixed => refuse((lambda, fixed, operand)),
+        },
+        Some(Frame::OpenEnd(head)) => refuse((lambda, head, operand)),
+        None => refuse((lambda, operand)),
     }
 }
 
@@ -213,18 +265,18 @@ fn at_brace(
     ensures { Steps (machine.at_brace token (plain_frames frames.old) (plain_measured operand)) frames.new result }
 {
     match frames.pop() {
-        Some(Frame::OpenEnd(Head::Lambda(names, arrow))) => match frames.pop() {
-            Some(Frame::Fixed(Fixed::InBracket(listing))) => begin_channel(
+        Some(Frame::OpenEnd(head)) => match head {
+            Head::Lambda(names, arrow) => lambda_brace(
                 alloc,
                 frames,
                 (names, arrow),
-                listing,
                 token,
                 operand,
             ),
-            other => refuse((names, other, operand)),
+            head => refuse((head, operand)),
         },
-        other => refuse((other, operand)),
+        Some(Frame::Fixed(fixed)) => refuse((fixed, operand)),
+        None => refuse(operand),
     }
 }
 
@@ -268,7 +320,8 @@ pub fn at_end(
 {
     match frames.pop() {
         Some(Frame::Fixed(fixed)) => fixed_step(alloc, frames, fixed, token, operand),
-        other => refuse((other, operand)),
+        Some(Frame::OpenEnd(head)) => refuse((head, operand)),
+        None => refuse(operand),
     }
 }
 

@@ -1,5 +1,6 @@
 //! Reads the parts of conditionals, rows of atoms, comprehensions and channels.
-ghost use Rattle.std.specs.Prelude.{◌≡◌, ◌&&◌, ◌↔◌, ◌+◌, ◌<◌, ◌≤◌, IfOk, IsTrue};
+ghost use Rattle.std.specs.Prelude.{◌≡◌, ◌&&◌, ◌↔◌, ◌+◌, ◌<◌, ◌≤◌, if◌then◌else◌, None, Some, IfOk, IsTrue};
+ghost use Rattle.jd_grammar.specs.declared.token.Kind.TheVariants.{CloseBracket, Comma};
 ghost use Rattle.jd_grammar.specs.Grammar.{Syntax, leaf};
 ghost use Rattle.jd_grammar.specs.Rows.{are_begun, with_cell};
 ghost use Rattle.jd_grammar.specs.Frames as machine_frames;
@@ -11,14 +12,14 @@ ghost use Rattle.jd_precedence.specs.State.{plain_hold, plain_frames, plain_now,
 
 use crate::frames::{Comprehension, Fixed, Frame, Hold, Now, Rows, Sized, Typed, Variable, Words};
 use crate::stack::Stack;
-use crate::stop::{Stop, refuse};
+use crate::stop::{Stop, refuse, stopped};
 use jd_grammar::token::{Kind, Token};
 use jd_tree::brackets::{bracket_of, no_arguments};
 use jd_tree::build::{ending_of, leaf_of};
 use jd_tree::kinds::{is_element_type, is_name, is_tight};
 use jd_tree::measured::{Atoms, Bracket, Head, Measured};
 use jd_tree::parts::{ChannelSigns, comprehension_of, generator_count, remote_of, with_generator};
-use jd_tree::rows::{MOST_ATOMS, is_full, matrix_of, may_go_on, with_atom};
+use jd_tree::rows::{self, MOST_ATOMS, is_full, matrix_of, may_go_on, with_atom};
 use jd_tree::tree::Channel;
 use sqlite_items::Boxed;
 use std::alloc::{AllocError, Global};
@@ -38,8 +39,14 @@ pub fn middle_step(
     if !matches!(token.kind, Kind::Colon) {
         return refuse((condition, operand));
     }
-    let condition = Boxed::new(alloc, condition)?;
-    let chosen = Boxed::new(alloc, operand)?;
+    let condition = match Boxed::new(alloc, condition) {
+        Ok(condition) => condition,
+        Err(_) => return stopped(operand, Stop::OutOfMemory),
+    };
+    let chosen = match Boxed::new(alloc, operand) {
+        Ok(chosen) => chosen,
+        Err(_) => return stopped(condition, Stop::OutOfMemory),
+    };
     frames.push(Frame::OpenEnd(Head::Choice(condition, question, chosen, token)))?;
     Ok(Now::Wanted)
 }
@@ -61,6 +68,22 @@ pub fn rows_in(
         pending,
     };
     Ok(Now::Pending(Words::Atoms(Hold::Rows(Boxed::new(alloc, rows)?))))
+}
+
+/// Behind an atom of the first row, where a matrix may begin with so many.
+pub fn begun_rows(
+    alloc: Global,
+    frames: &Stack<Frame>,
+    opens: Token,
+    atoms: Atoms,
+) -> Result<Now, Stop>
+    ensures { let row = machine_frames.atoms (machine_frames.rows opens (plain_first atoms) (plain_atoms atoms) None) in
+        Steps (if are_begun (plain_atoms atoms) then Some (machine_frames.await (plain_frames frames.now) row) else None) frames.now result }
+{
+    if !rows::are_begun(&atoms) {
+        return refuse(atoms);
+    }
+    Ok(rows_in(alloc, opens, atoms, None)?)
 }
 
 /// What goes on behind an atom.
@@ -163,7 +186,10 @@ pub fn group_step(
         return refuse((hold, operand));
     }
     let most = no_arguments(alloc);
-    let atom = bracket_of(alloc, Bracket::Grouped, opens, most, Some(operand), token)?;
+    let atom = match bracket_of(alloc, Bracket::Grouped, opens, most, Some(operand), token) {
+        Ok(atom) => atom,
+        Err(_) => return stopped(hold, Stop::OutOfMemory),
+    };
     Ok(filled(alloc, frames, hold, atom)?)
 }
 
@@ -276,7 +302,10 @@ pub fn minus_step(
     if !is_tight(token) {
         return refuse(hold);
     }
-    let atom = ending_of(alloc, Head::Unary(minus), leaf_of(token))?;
+    let atom = match ending_of(alloc, Head::Unary(minus), leaf_of(token)) {
+        Ok(atom) => atom,
+        Err(_) => return stopped(hold, Stop::OutOfMemory),
+    };
     Ok(filled(alloc, frames, hold, atom)?)
 }
 
@@ -342,12 +371,57 @@ fn with_clause(
         name,
         within,
     } = variable;
-    let generators = with_generator(generators, begins, name, within, collection)?;
+    let generators = match with_generator(generators, begins, name, within, collection) {
+        Ok(generators) => generators,
+        Err(error) => {
+            drop(element);
+            return Err(error);
+        }
+    };
     Ok(Comprehension {
         opens,
         element,
         generators,
     })
+}
+
+/// Reads the comma behind the collection of a generator.
+fn next_generator(
+    alloc: Global,
+    frames: &Stack<Frame>,
+    comprehension: Boxed<Comprehension>,
+    variable: Variable,
+    token: Token,
+    operand: Measured,
+) -> Result<Now, Stop>
+    ensures { let next = machine.generator_step comprehension.opens (plain_measured comprehension.element) (plain_generators comprehension.generators) variable.begins variable.name variable.within in
+        Steps (next Comma token (plain_frames frames.now) (plain_measured operand)) frames.now result }
+{
+    if generator_count(&comprehension.get().generators) > 1 {
+        return refuse((comprehension, operand));
+    }
+    let comprehension = with_clause(comprehension.into_inner(), variable, operand)?;
+    Ok(Now::Pending(Words::GeneratorName(Boxed::new(alloc, comprehension)?, token)))
+}
+
+/// Reads the closing bracket behind the collection of a generator.
+fn generators_end(
+    alloc: Global,
+    frames: &Stack<Frame>,
+    comprehension: Boxed<Comprehension>,
+    variable: Variable,
+    token: Token,
+    operand: Measured,
+) -> Result<Now, Stop>
+    ensures { let next = machine.generator_step comprehension.opens (plain_measured comprehension.element) (plain_generators comprehension.generators) variable.begins variable.name variable.within in
+        Steps (next CloseBracket token (plain_frames frames.now) (plain_measured operand)) frames.now result }
+{
+    let Comprehension {
+        opens,
+        element,
+        generators,
+    } = with_clause(comprehension.into_inner(), variable, operand)?;
+    Ok(Now::Got(comprehension_of(alloc, opens, element, generators, token)?))
 }
 
 /// Reads a token behind the collection of a generator.
@@ -363,21 +437,15 @@ pub fn generator_step(
         Steps (next token.kind token (plain_frames frames.now) (plain_measured operand)) frames.now result }
 {
     match token.kind {
-        Kind::Comma => {
-            if generator_count(&comprehension.get().generators) > 1 {
-                return refuse((comprehension, operand));
-            }
-            let comprehension = with_clause(comprehension.into_inner(), variable, operand)?;
-            Ok(Now::Pending(Words::GeneratorName(Boxed::new(alloc, comprehension)?, token)))
-        }
-        Kind::CloseBracket => {
-            let Comprehension {
-                opens,
-                element,
-                generators,
-            } = with_clause(comprehension.into_inner(), variable, operand)?;
-            Ok(Now::Got(comprehension_of(alloc, opens, element, generators, token)?))
-        }
+        Kind::Comma => next_generator(alloc, frames, comprehension, variable, token, operand),
+        Kind::CloseBracket => generators_end(
+            alloc,
+            frames,
+            comprehension,
+            variable,
+            token,
+            operand,
+        ),
         _ => refuse((comprehension, operand)),
     }
 }

@@ -1,11 +1,12 @@
 //! Reads one token of an expression.
 ghost use Rattle.std.specs.Prelude.{◌≡◌, ◌∷◌};
-ghost use Rattle.jd_grammar.specs.Frames.{operator};
+ghost use Rattle.jd_grammar.specs.Frames.{fixed, in_bracket, operator};
 ghost use Rattle.jd_grammar.specs.Machine as machine;
+ghost use Rattle.jd_tree.specs.Code.{plain_arguments, plain_bracket};
 ghost use Rattle.jd_precedence.specs.State.{plain_frames, plain_now, plain_words, Steps};
 
 use crate::brackets::bracket_step;
-use crate::frames::{Fixed, Frame, Now, Words};
+use crate::frames::{Fixed, Frame, Listing, Now, Words};
 use crate::operands::want_step;
 use crate::operators::have_step;
 use crate::parts::{
@@ -19,6 +20,23 @@ use jd_tree::build::sign_of;
 use jd_tree::measured::Bracket;
 use std::alloc::Global;
 
+/// Reads a token behind an operator in parentheses or brackets: it is an argument in a call alone.
+fn behind_argument(
+    alloc: Global,
+    frames: &mut Stack<Frame>,
+    listing: Listing,
+    sign: Token,
+    token: Token,
+) -> Result<Now, Stop>
+    ensures { let item = fixed (in_bracket (plain_bracket listing.bracket) listing.opens (plain_arguments listing.most)) in
+        Steps (machine.words_step (operator sign) token (item ∷ plain_frames frames.old)) frames.new result }
+{
+    match &listing.bracket {
+        Bracket::Called(_) => bracket_step(alloc, frames, listing, token, sign_of(sign)),
+        Bracket::Grouped | Bracket::Itemed | Bracket::Indexed(_) => refuse(listing),
+    }
+}
+
 /// Reads a token behind an operator that is an argument.
 fn behind_operator(
     alloc: Global,
@@ -29,11 +47,12 @@ fn behind_operator(
     ensures { Steps (machine.words_step (operator sign) token (plain_frames frames.old)) frames.new result }
 {
     match frames.pop() {
-        Some(Frame::Fixed(Fixed::InBracket(listing))) => match &listing.bracket {
-            Bracket::Called(_) => bracket_step(alloc, frames, listing, token, sign_of(sign)),
-            Bracket::Grouped | Bracket::Itemed | Bracket::Indexed(_) => refuse(listing),
+        Some(Frame::Fixed(fixed)) => match fixed {
+            Fixed::InBracket(listing) => behind_argument(alloc, frames, listing, sign, token),
+            fixed => refuse(fixed),
         },
-        other => refuse(other),
+        Some(Frame::OpenEnd(head)) => refuse(head),
+        None => Err(Stop::Refused),
     }
 }
 

@@ -13,7 +13,7 @@ use crate::context::{Awaited, Bottom, Config, Context, Mode, Outer, Whole};
 use jd_grammar::token::{Kind, Token};
 use jd_precedence::frames::Now;
 use jd_precedence::stack::Stack;
-use jd_precedence::stop::{Stop, refuse};
+use jd_precedence::stop::{Stop, refuse, stopped};
 use jd_script::blocks::{
     alone_of, block_of, blocks_of, else_of, ended_of, headed_of, no_lines, with_arm, with_line,
 };
@@ -91,9 +91,12 @@ pub fn without_expression(bottom: Bottom) -> Whole
     ensures { plain_whole result ≡ machine.without_expression (plain_bottom bottom) [] }
 {
     match bottom {
-        Bottom::Lead(Lead::Bare) => Whole::Place(None),
-        Bottom::Lead(Lead::Returned(token)) => Whole::Place(Some(alone_of(token))),
-        other => nothing(other),
+        Bottom::Lead(lead) => match lead {
+            Lead::Bare => Whole::Place(None),
+            Lead::Returned(token) => Whole::Place(Some(alone_of(token))),
+            lead => nothing(lead),
+        },
+        header => nothing(header),
     }
 }
 
@@ -190,8 +193,14 @@ fn elseif_block(
         before,
         opening,
     } = statement;
-    let arms = with_arm(before, opening, inner)?;
-    let header = Boxed::new(alloc, Header::Elseif(token))?;
+    let arms = match with_arm(before, opening, inner) {
+        Ok(arms) => arms,
+        Err(_) => return stopped((outer, lines), Stop::OutOfMemory),
+    };
+    let header = match Boxed::new(alloc, Header::Elseif(token)) {
+        Ok(header) => header,
+        Err(_) => return stopped((outer, lines, arms), Stop::OutOfMemory),
+    };
     Ok(Config {
         context: Context { outer, lines },
         mode: expression_in(alloc, Bottom::Header(arms, header)),
@@ -240,8 +249,14 @@ fn catch_block(
         before,
         opening,
     } = statement;
-    let arms = with_arm(before, opening, inner)?;
-    let words = Boxed::new(alloc, Awaited::CatchWords(arms, token))?;
+    let arms = match with_arm(before, opening, inner) {
+        Ok(arms) => arms,
+        Err(_) => return stopped((outer, lines), Stop::OutOfMemory),
+    };
+    let words = match Boxed::new(alloc, Awaited::CatchWords(arms, token)) {
+        Ok(words) => words,
+        Err(_) => return stopped((outer, lines), Stop::OutOfMemory),
+    };
     Ok(Config {
         context: Context { outer, lines },
         mode: Mode::Words(words),
@@ -259,9 +274,12 @@ fn end_word(
 {
     let Context { mut outer, lines } = context;
     match outer.pop() {
-        None => refuse((lines, place)),
+        None => refuse((outer, lines, place)),
         Some(statement) => {
-            let inner = block_of(alloc, lines, place)?;
+            let inner = match block_of(alloc, lines, place) {
+                Ok(inner) => inner,
+                Err(_) => return stopped((outer, statement), Stop::OutOfMemory),
+            };
             match token.kind {
                 Kind::End => end_block(alloc, token, outer, statement, inner),
                 Kind::Elseif => elseif_block(alloc, token, outer, statement, inner),

@@ -128,7 +128,10 @@ fn end_step(
     ensures { Leads (machine.mode_step (machine.at_expression (plain_bottom bottom) (have (plain_frames frames) (plain_measured operand))) token (plain_context context)) result }
 {
     let mut frames = frames;
-    let operand = close_all(alloc, &mut frames, 0, operand)?;
+    let operand = match close_all(alloc, &mut frames, 0, operand) {
+        Ok(operand) => operand,
+        Err(_) => return stopped((context, bottom, frames), Stop::OutOfMemory),
+    };
     if none_open(&frames) {
         ending_step(alloc, context, token, with_expression(bottom, operand))
     } else {

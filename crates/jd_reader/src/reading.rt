@@ -20,7 +20,7 @@ use jd_grammar::token::Token;
 use jd_precedence::close::close_all;
 use jd_precedence::frames::{Frame, Now};
 use jd_precedence::stack::Stack;
-use jd_precedence::stop::{Stop, refuse};
+use jd_precedence::stop::{Stop, refuse, stopped};
 use jd_script::blocks::{block_of, no_lines};
 use jd_script::tree::{Block, Lead};
 use std::alloc::{AllocError, Global};
@@ -67,14 +67,22 @@ fn whole_at(
     match now {
         Now::Wanted => {
             if none_open(&frames) {
+                drop(frames);
                 Ok(without_expression(bottom))
             } else {
                 Ok(nothing((bottom, frames)))
             }
         }
         Now::Got(operand) => {
-            let operand = close_all(alloc, &mut frames, 0, operand)?;
+            let operand = match close_all(alloc, &mut frames, 0, operand) {
+                Ok(operand) => operand,
+                Err(error) => {
+                    drop((bottom, frames));
+                    return Err(error);
+                }
+            };
             if none_open(&frames) {
+                drop(frames);
                 Ok(with_expression(bottom, operand))
             } else {
                 Ok(nothing((bottom, frames, operand)))
@@ -100,14 +108,20 @@ fn finish(alloc: Global, config: Config) -> Result<Block, Stop>
     ensures { Ends (machine.finish (plain_config config)) result }
 {
     let Config { context, mode } = config;
+    let whole = match whole_of(alloc, mode) {
+        Ok(whole) => whole,
+        Err(_) => return stopped(context, Stop::OutOfMemory),
+    };
     let Context { outer, lines } = context;
-    let whole = whole_of(alloc, mode)?;
     match outer.top() {
-        Some(_) => refuse((lines, whole)),
-        None => match whole {
-            Whole::Place(place) => Ok(block_of(alloc, lines, place)?.block),
-            other => refuse((lines, other)),
-        },
+        Some(_) => refuse((outer, lines, whole)),
+        None => {
+            drop(outer);
+            match whole {
+                Whole::Place(place) => Ok(block_of(alloc, lines, place)?.block),
+                other => refuse((lines, other)),
+            }
+        }
     }
 }
 
@@ -127,6 +141,7 @@ fn read_all(alloc: Global, tokens: &[Token]) -> Result<Block, Fault>
             Err(stop) => return Err(fault_of(stop, place, refusal_of(token, Refusal::Misplaced))),
         }
         if script_needs(&config) > NESTING_LIMIT {
+            drop(config);
             return Err(Fault::Refused {
                 place,
                 refusal: refusal_of(token, Refusal::TooDeep),

@@ -14,7 +14,7 @@ use crate::context::{Awaited, Bottom, Config, Context, Distributing, Mode, Whole
 use crate::scopes::scope_of;
 use jd_grammar::token::{Kind, Token};
 use jd_precedence::operators::leaf_token;
-use jd_precedence::stop::{Stop, refuse};
+use jd_precedence::stop::{Stop, refuse, stopped};
 use jd_script::blocks::{alone_of, defined_of, no_arms, try_of};
 use jd_script::tree::{Header, Lead, Target};
 use jd_tree::kinds::is_name;
@@ -218,6 +218,7 @@ fn assign_step(
             if !is_name(name.kind) {
                 return refuse((context, operand));
             }
+            drop(operand);
             Ok(go_in(alloc, context, Bottom::Lead(Lead::Assigned(name, token))))
         }
         None => define(alloc, context, token, operand),
@@ -229,10 +230,20 @@ fn define(alloc: Global, context: Context, token: Token, operand: Measured) -> R
     requires { leaf_token_in (plain_measured operand) ≡ None }
     ensures { Leads (machine.assign_step token (plain_context context) (plain_measured operand)) result }
 {
-    if !scope_of(&context.outer).top || !is_signature(alloc, &operand)? {
+    if !scope_of(&context.outer).top {
         return refuse((context, operand));
     }
-    let lead = defined_of(alloc, operand, token)?;
+    let stands = match is_signature(alloc, &operand) {
+        Ok(stands) => stands,
+        Err(_) => return stopped((context, operand), Stop::OutOfMemory),
+    };
+    if !stands {
+        return refuse((context, operand));
+    }
+    let lead = match defined_of(alloc, operand, token) {
+        Ok(lead) => lead,
+        Err(_) => return stopped(context, Stop::OutOfMemory),
+    };
     Ok(go_in(alloc, context, Bottom::Lead(lead)))
 }
 
@@ -250,6 +261,7 @@ fn update_step(
             if !is_name(name.kind) {
                 return refuse((context, operand));
             }
+            drop(operand);
             Ok(go_in(alloc, context, Bottom::Lead(Lead::Updated(name, token))))
         }
         None => refuse((context, operand)),
@@ -268,10 +280,13 @@ pub fn assigning_step(
     ensures { Leads (machine.statement_step token.kind token (plain_context context) (plain_bottom bottom) [] (got (plain_measured operand))) result }
 {
     match bottom {
-        Bottom::Lead(Lead::Bare) => match token.kind {
-            Kind::Assign => assign_step(alloc, context, token, operand),
-            _ => update_step(alloc, context, token, operand),
+        Bottom::Lead(lead) => match lead {
+            Lead::Bare => match token.kind {
+                Kind::Assign => assign_step(alloc, context, token, operand),
+                _ => update_step(alloc, context, token, operand),
+            },
+            lead => refuse((context, lead, operand)),
         },
-        other => refuse((context, other, operand)),
+        header => refuse((context, header, operand)),
     }
 }

@@ -68,9 +68,16 @@ pub fn read_stretch(
     let Config { context, mode } = config;
     match mode {
         Mode::Expression(bottom, mut frames, now) => {
-            let (now, place) = stretch(alloc, &context, &bottom, &mut frames, now, tokens, from)?;
-            let mode = Mode::Expression(bottom, frames, now);
-            Ok((Config { context, mode }, place))
+            match stretch(alloc, &context, &bottom, &mut frames, now, tokens, from) {
+                Ok((now, place)) => {
+                    let mode = Mode::Expression(bottom, frames, now);
+                    Ok((Config { context, mode }, place))
+                }
+                Err(fault) => {
+                    drop((context, bottom, frames));
+                    Err(fault)
+                }
+            }
         }
         other => Ok((
             Config {

@@ -9,6 +9,4 @@
 pub mod blocks;
 pub mod nested;
 pub mod parameters;
-#[cfg(test)]
-mod tests;
 pub mod tree;

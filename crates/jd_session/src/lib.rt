@@ -5,8 +5,6 @@ mod drive;
 mod record;
 mod session;
 mod stop;
-#[cfg(test)]
-mod tests;
 
 pub use drive::run;
 pub use session::Session;

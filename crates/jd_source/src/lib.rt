@@ -10,8 +10,6 @@
 mod host;
 mod memory;
 mod pause;
-#[cfg(test)]
-mod tests;
 mod traits;
 mod transfer;
 

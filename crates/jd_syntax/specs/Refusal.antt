@@ -1,5 +1,5 @@
 -- Where bytes that spell no script are refused, and why.
-use Rattle.std.specs.Prelude.{◌≡◌, ℕ, ◌+◌, ◌≤◌, ◌<◌, ◌==◌, List, length, take, count_by, slice_get, Some, None, option_map, unwrap_or}
+use Rattle.std.specs.Prelude.{◌≡◌, ℕ, ◌+◌, ◌≤◌, ◌<◌, ◌==◌, ◌⊎◌, List, length, take, count_by, slice_get, Some, None, option_map, unwrap_or}
 use Rattle.std.specs.Str.{IsValidUpTo}
 use Rattle.jd_grammar.specs.declared.token.Token.{Token}
 use Rattle.jd_grammar.specs.Promise.{IsPrefixWithin, IsTooLargeAt, IsTooDeepAt, IsMisplacedAt}
@@ -50,3 +50,6 @@ AreRefusedOnce = (bytes : List ℕ) (k l : ParseKind) (m n : ℕ) → IsRefused 
 
 abbrev pub AreNotBoth : Type 0
 AreNotBoth = (bytes : List ℕ) (s : Script) (k : ParseKind) (n : ℕ) → Spells bytes s → IsRefused bytes k n → ⊥
+
+abbrev pub AreSpelledOrRefused : Type 0
+AreSpelledOrRefused = (bytes : List ℕ) → ((s : Script) × Spells bytes s) ⊎ ((k : ParseKind) × (n : ℕ) × IsRefused bytes k n)

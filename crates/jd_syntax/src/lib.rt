@@ -10,8 +10,6 @@ pub mod laws;
 mod lines;
 mod parsing;
 mod script;
-#[cfg(test)]
-mod tests;
 
 pub use fault::{ParseFault, ParseKind};
 pub use parsing::{MAX_SCRIPT, parse};

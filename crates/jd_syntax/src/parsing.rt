@@ -100,12 +100,17 @@ fn refused(
 fn script_of(alloc: Global, block: Block, lexer: Lexer) -> Result<Script, AllocError>
     ensures { IfOk result (λ s. plain_script s ≡ script_with (plain_block block) (lexed_of lexer.entry)) }
 {
-    let names = owned(alloc, lexer.names.as_slice())?;
-    Ok(Script {
-        block,
-        texts: lexer.texts,
-        names,
-    })
+    match owned(alloc, lexer.names.as_slice()) {
+        Ok(names) => Ok(Script {
+            block,
+            texts: lexer.texts,
+            names,
+        }),
+        Err(error) => {
+            drop((block, lexer));
+            Err(error)
+        }
+    }
 }
 
 /// Reads what was cut from text, and the first place where no token begins, if there is one.
@@ -120,10 +125,13 @@ fn read_cut(alloc: Global, lexer: Lexer, stop: Option<usize>, end: usize) -> Res
         Err(Stop::OutOfMemory) => return Err(Stop::OutOfMemory),
     };
     match stop {
-        Some(place) => Err(Stop::Refused {
-            kind: ParseKind::Token,
-            place,
-        }),
+        Some(place) => {
+            drop((block, lexer));
+            Err(Stop::Refused {
+                kind: ParseKind::Token,
+                place,
+            })
+        }
         None => match script_of(alloc, block, lexer) {
             Ok(script) => Ok(script),
             Err(_) => Err(Stop::OutOfMemory),
@@ -157,7 +165,7 @@ pub fn parse(alloc: Global, bytes: &[u8]) -> Result<Script, ParseFault>
     ensures found { IfOk result (λ s. Spells bytes.now (plain_script s)) }
     // What is spelled so is read, unless memory runs out.
     ensures only { (s : spelling.Script) → Spells bytes.now s → Parses result s }
-    // Its tokens are cut from the bytes: each is the longest at its place, and blanks and comments
+    // Its tokens are cut from the bytes, each as far as its beginning says, and blanks and comments
     // stand between.
     ensures cut { IfOk result (λ s. IsCut bytes.now (plain_script s)) }
     // A refusal is that of its kind, at a place on its line.

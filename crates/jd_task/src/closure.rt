@@ -3,7 +3,7 @@ ghost use Rattle.std.specs.Prelude.{◌≡◌, ◌++◌, IfOk, OnOk};
 ghost use Rattle.std.specs.Option.{option_map};
 ghost use Rattle.jd_expr.specs.Variables.{value_of};
 ghost use Rattle.jd_task.specs.Names as spec;
-ghost use Rattle.jd_task.specs.Names.{variables_named, closure_of};
+ghost use Rattle.jd_task.specs.Names.{free_names, variables_named, closure_of};
 
 use crate::names::push_free_names;
 use jd_expr::{Env, Variable};
@@ -65,16 +65,33 @@ pub(crate) fn captured(
     }
 }
 
+/// The values that a body keeps of these variables.
+fn kept_by(alloc: Global, body: &Body, variables: &Env) -> Result<Items<Variable>, OutOfMemory>
+    ensures { IfOk result (λ all. all ≡ variables_named (free_names body.now) variables.now) }
+{
+    let mut names = Items::new(alloc);
+    push_free_names(alloc, body, &mut names)?;
+    kept_of(alloc, names.as_slice(), variables)
+}
+
+fn copy_variables(alloc: Global, variables: &[Variable]) -> Result<Items<Variable>, OutOfMemory>
+    ensures { IfOk result (λ all. all ≡ variables.now) }
+{
+    let mut all = Items::new(alloc);
+    for variable in variables {
+        all.push(variable.copy()?)?;
+    }
+    Ok(all)
+}
+
 impl Closure {
     /// The body with the values that it keeps of these variables.
     fn of(alloc: Global, body: &Body, variables: &Env) -> Result<Closure, OutOfMemory>
         ensures { IfOk result (λ closure. closure ≡ closure_of variables.now body.now) }
     {
-        let mut names = Items::new(alloc);
-        push_free_names(alloc, body, &mut names)?;
         Ok(Closure {
             body: body.share()?,
-            kept: kept_of(alloc, names.as_slice(), variables)?,
+            kept: kept_by(alloc, body, variables)?,
         })
     }
 
@@ -82,13 +99,9 @@ impl Closure {
     pub fn copy(&self, alloc: Global) -> Result<Closure, OutOfMemory>
         ensures { IfOk result (λ c. c ≡ self.now) }
     {
-        let mut kept = Items::new(alloc);
-        for variable in self.kept.as_slice() {
-            kept.push(variable.copy()?)?;
-        }
         Ok(Closure {
             body: self.body.share()?,
-            kept,
+            kept: copy_variables(alloc, self.kept.as_slice())?,
         })
     }
 }

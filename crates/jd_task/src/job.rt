@@ -1,6 +1,9 @@
 //! Jobs: tasks that are to go on.
 ghost use Rattle.std.specs.Prelude.{◌≡◌, IfOk};
-ghost use Rattle.jd_task.specs.Running.{advance};
+ghost use Rattle.jd_expr.specs.Action.{Ran, Gives};
+ghost use Rattle.jd_task.specs.declared.doing.Doing.{Doing as TheDoing};
+ghost use Rattle.jd_task.specs.declared.reached.Reached.{Reached as TheReached};
+ghost use Rattle.jd_task.specs.Running.{advance, left_by};
 
 use crate::doing::Doing;
 use crate::op::Op;
@@ -51,16 +54,15 @@ pub struct Evaluated {
     pub turn: Turn,
 }
 
-/// The place and the turn that a step leaves.
-#[tactic(auto, unfolding(crate::specs::Running::advance))]
-fn advance(alloc: Global, place: Place, answer: Outcome) -> Result<(Place, Turn), OutOfMemory>
-    ensures { IfOk result (λ left. left ≡ advance place answer) }
+/// The place and the turn that a step leaves, by what it came to.
+fn left_by(
+    alloc: Global,
+    reached: Result<Reached, Stop>,
+    doing: Doing,
+) -> Result<(Place, Turn), OutOfMemory>
+    ensures { (ran : Ran TheDoing TheReached) → Gives ran reached doing → IfOk result (λ left. left ≡ left_by ran) }
 {
-    let mut doing = Doing {
-        variables: place.variables,
-        left: Budget::new(STEP_UNITS),
-    };
-    let (frames, turn) = match resume(alloc, place.frames.as_slice(), answer, &mut doing) {
+    let (frames, turn) = match reached {
         Ok(Reached::Went(value)) => (Items::new(alloc), Turn::Ended(Ok(value))),
         Ok(Reached::Asks(op, frames)) => (frames, Turn::Asks(op)),
         Err(Stop::Faulted(fault)) => (Items::new(alloc), Turn::Ended(Err(fault))),
@@ -68,6 +70,20 @@ fn advance(alloc: Global, place: Place, answer: Outcome) -> Result<(Place, Turn)
     };
     let variables = doing.variables;
     Ok((Place { frames, variables }, turn))
+}
+
+/// The place and the turn that a step leaves.
+#[tactic(auto, unfolding(crate::specs::Running::advance))]
+fn advance(alloc: Global, place: Place, answer: Outcome) -> Result<(Place, Turn), OutOfMemory>
+    ensures { IfOk result (λ left. left ≡ advance place answer) }
+{
+    let Place { frames, variables } = place;
+    let mut doing = Doing {
+        variables,
+        left: Budget::new(STEP_UNITS),
+    };
+    let reached = resume(alloc, STEP_UNITS, frames.as_slice(), answer, &mut doing);
+    left_by(alloc, reached, doing)
 }
 
 impl Job {

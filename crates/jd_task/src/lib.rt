@@ -9,6 +9,8 @@ mod closure;
 mod doing;
 mod frame;
 mod job;
+mod laws;
+mod level;
 mod msg;
 mod names;
 mod op;
@@ -16,12 +18,11 @@ mod place;
 mod reached;
 mod running;
 mod statement;
-#[cfg(test)]
-mod tests;
 
 pub use closure::Closure;
 pub use frame::Frame;
 pub use job::{Evaluated, Job, STEP_UNITS, TaskId, Turn};
+pub use laws::{more_fuel_changes_no_step, resuming_is_recursion};
 pub use msg::Msg;
 pub use op::Op;
 pub use place::Place;

@@ -1,5 +1,6 @@
 //! Messages between processes.
 ghost use Rattle.std.specs.Prelude.{◌≡◌, IfOk};
+ghost use Rattle.jd_task.specs.declared.msg.Msg.TheVariants.{Call};
 
 use crate::closure::Closure;
 use crate::job::TaskId;
@@ -44,6 +45,24 @@ fn copy_values(alloc: Global, values: &[Value]) -> Result<Items<Value>, OutOfMem
     Ok(all)
 }
 
+/// The same call once more.
+fn copy_call(
+    alloc: Global,
+    cell: RefId,
+    task: TaskId,
+    code: &Closure,
+    args: &[Value],
+) -> Result<Msg, OutOfMemory>
+    ensures { IfOk result (λ m. m ≡ Call cell task code.now args.now) }
+{
+    Ok(Msg::Call {
+        cell,
+        task,
+        code: code.copy(alloc)?,
+        args: copy_values(alloc, args)?,
+    })
+}
+
 impl Msg {
     /// The same message once more. It takes time in proportion to the number of its values.
     pub fn copy(&self, alloc: Global) -> Result<Msg, OutOfMemory>
@@ -56,12 +75,7 @@ impl Msg {
                 task,
                 code,
                 args,
-            } => Ok(Msg::Call {
-                cell: *cell,
-                task: *task,
-                code: code.copy(alloc)?,
-                args: copy_values(alloc, args.as_slice())?,
-            }),
+            } => copy_call(alloc, *cell, *task, code, args.as_slice()),
             Msg::Fetch { ask, cell } => Ok(Msg::Fetch {
                 ask: *ask,
                 cell: *cell,

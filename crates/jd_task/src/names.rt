@@ -1,5 +1,5 @@
 //! The names that a body uses and doesn't bind.
-ghost use Rattle.std.specs.Prelude.{◌≡◌, ◌++◌, ◌∷◌, [], flat_map, IfOk, OnOk};
+ghost use Rattle.std.specs.Prelude.{◌≡◌, ◌++◌, ◌∷◌, [], ℕ, List, flat_map, IfOk, OnOk};
 ghost use Rattle.jd_task.specs.Bound.{with_names};
 ghost use Rattle.jd_task.specs.Names.{names_of, first_uses, used_of, bound_of, uses_of, free_names};
 ghost use Rattle.jd_value.specs.declared.tree.Body.{out-Body};
@@ -42,6 +42,17 @@ fn add(names: &mut IndexSet<Shared<Txt>>, name: &Shared<Txt>) -> Result<(), OutO
     Ok(())
 }
 
+fn add_parameter(
+    alloc: Global,
+    parameter: &Txt,
+    names: &mut IndexSet<Shared<Txt>>,
+) -> Result<(), OutOfMemory>
+    ensures { OnOk result (names.new.keys ≡ with_names names.old.keys (parameter.now ∷ [])) }
+{
+    names.insert(Shared::new(alloc, parameter.copy()?)?)?;
+    Ok(())
+}
+
 fn add_parameters(
     alloc: Global,
     parameters: &[Txt],
@@ -50,7 +61,7 @@ fn add_parameters(
     ensures { OnOk result (names.new.keys ≡ with_names names.old.keys parameters.now) }
 {
     for parameter in parameters {
-        add(names, &Shared::new(alloc, parameter.copy()?)?)?;
+        add_parameter(alloc, parameter, names)?;
     }
     Ok(())
 }
@@ -65,16 +76,48 @@ fn add_bound(stmt: &Stmt, names: &mut IndexSet<Shared<Txt>>) -> Result<(), OutOf
     }
 }
 
+fn add_all_bound(stmts: &[Stmt], names: &mut IndexSet<Shared<Txt>>) -> Result<(), OutOfMemory>
+    ensures { OnOk result (names.new.keys ≡ with_names names.old.keys (flat_map (λ stmt. bound_of (uses_of stmt)) stmts.now)) }
+{
+    for stmt in stmts {
+        add_bound(stmt, names)?;
+    }
+    Ok(())
+}
+
+/// Adds the parameters of a body and the names to which its statements give values.
+fn add_bound_in(
+    alloc: Global,
+    body: &Body,
+    names: &mut IndexSet<Shared<Txt>>,
+) -> Result<(), OutOfMemory>
+    ensures { OnOk result (names.new.keys ≡ with_names (with_names names.old.keys (out-Body body.now).parameters) (flat_map (λ stmt. bound_of (uses_of stmt)) (out-Block (out-Body body.now).block).stmts)) }
+{
+    add_parameters(alloc, body.parameters.get().as_slice(), names)?;
+    add_all_bound(body.block.get().stmts.as_slice(), names)
+}
+
 /// The parameters of a body and the names to which its statements give values.
 fn bound_names(alloc: Global, body: &Body) -> Result<IndexSet<Shared<Txt>>, OutOfMemory>
     ensures { IfOk result (λ names. names.keys ≡ with_names (with_names [] (out-Body body.now).parameters) (flat_map (λ stmt. bound_of (uses_of stmt)) (out-Block (out-Body body.now).block).stmts)) }
 {
     let mut names = IndexSet::new(alloc);
-    add_parameters(alloc, body.parameters.get().as_slice(), &mut names)?;
-    for stmt in body.block.get().stmts.as_slice() {
-        add_bound(stmt, &mut names)?;
-    }
+    add_bound_in(alloc, body, &mut names)?;
     Ok(names)
+}
+
+/// Adds a name that isn't in the set, to the set and to `out`.
+fn push_first_use(
+    bound: &mut IndexSet<Shared<Txt>>,
+    name: &Shared<Txt>,
+    out: &mut Items<Shared<Txt>>,
+) -> Result<(), OutOfMemory>
+    ensures { OnOk result ((rest : List (List ℕ)) → out.old ++ first_uses bound.old.keys (name.now ∷ rest) ≡ out.new ++ first_uses bound.new.keys rest) }
+{
+    if bound.insert(name.share()?)? {
+        out.push(name.share()?)?;
+    }
+    Ok(())
 }
 
 /// Adds the names that aren't in the set, each where it stands first.
@@ -86,9 +129,7 @@ fn push_first_uses(
     ensures { OnOk result (out.new ≡ out.old ++ first_uses bound.keys names.now) }
 {
     for name in names {
-        if bound.insert(name.share()?)? {
-            out.push(name.share()?)?;
-        }
+        push_first_use(&mut bound, name, out)?;
     }
     Ok(())
 }

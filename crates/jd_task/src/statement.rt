@@ -1,15 +1,15 @@
-//! Statements, each for a unit.
-ghost use Rattle.std.specs.Prelude.{◌≡◌};
+//! Statements with no statements inside, of which the unit is spent.
+ghost use Rattle.std.specs.Prelude.{◌≡◌, IfOk};
 ghost use Rattle.jd_expr.specs.Action.{Gives};
 ghost use Rattle.jd_task.specs.Running as spec;
 
 use crate::closure::captured;
 use crate::doing::Doing;
-use crate::frame::Frame;
+use crate::frame::answer_in;
 use crate::op::Op;
-use crate::reached::Reached;
-use jd_expr::{Stop, eval, eval_all};
-use jd_value::{Body, Expr, Operation, Shared, Stmt, Txt, Value};
+use crate::reached::{Reached, asks};
+use jd_expr::{Env, Stop, eval, eval_all};
+use jd_value::{Body, Expr, Operation, OutOfMemory, Shared, Txt, Value};
 use sqlite_items::Items;
 use std::alloc::Global;
 
@@ -21,7 +21,12 @@ pub(crate) fn set(name: &Txt, value: &Value, doing: &mut Doing) -> Result<(), St
 }
 
 #[tactic(auto, unfolding(crate::specs::Running::assignment))]
-fn assign(alloc: Global, name: &Txt, x: &Expr, doing: &mut Doing) -> Result<Reached, Stop>
+pub(crate) fn assign(
+    alloc: Global,
+    name: &Txt,
+    x: &Expr,
+    doing: &mut Doing,
+) -> Result<Reached, Stop>
     ensures { Gives (spec.assignment name.now x.now doing.old) result doing.new }
 {
     let value = eval(alloc, x, &doing.variables, &mut doing.left)?;
@@ -30,15 +35,32 @@ fn assign(alloc: Global, name: &Txt, x: &Expr, doing: &mut Doing) -> Result<Reac
 }
 
 #[tactic(auto, unfolding(crate::specs::Running::expression))]
-fn expression(alloc: Global, x: &Expr, doing: &mut Doing) -> Result<Reached, Stop>
+pub(crate) fn expression(alloc: Global, x: &Expr, doing: &mut Doing) -> Result<Reached, Stop>
     ensures { Gives (spec.expression x.now doing.old) result doing.new }
 {
     let value = eval(alloc, x, &doing.variables, &mut doing.left)?;
     Ok(Reached::Went(value))
 }
 
+/// The operation with the closure of its body.
+fn op_of(
+    alloc: Global,
+    operation: Operation,
+    body: &Option<Body>,
+    args: Items<Value>,
+    variables: &Env,
+) -> Result<Op, OutOfMemory>
+    ensures { IfOk result (λ op. op ≡ spec.op_of operation body.now args variables.now) }
+{
+    Ok(Op {
+        operation,
+        body: captured(alloc, body, variables)?,
+        args,
+    })
+}
+
 #[tactic(auto, unfolding(crate::specs::Running::effect))]
-fn effect(
+pub(crate) fn effect(
     alloc: Global,
     name: &Shared<Txt>,
     operation: Operation,
@@ -49,34 +71,6 @@ fn effect(
     ensures { Gives (spec.effect name.now operation body.now args.now doing.old) result doing.new }
 {
     let args = eval_all(alloc, args, &doing.variables, &mut doing.left)?;
-    let body = captured(alloc, body, &doing.variables)?;
-    let mut frames = Items::new(alloc);
-    frames.push(Frame::Answer(name.share()?))?;
-    Ok(Reached::Asks(
-        Op {
-            operation,
-            body,
-            args,
-        },
-        frames,
-    ))
-}
-
-#[tactic(auto, unfolding(crate::specs::Running::exec))]
-pub(crate) fn exec(alloc: Global, stmt: &Stmt, doing: &mut Doing) -> Result<Reached, Stop>
-    ensures { Gives (spec.exec stmt.now doing.old) result doing.new }
-{
-    doing.left.spend()?;
-    match stmt {
-        Stmt::Set(name, x) => assign(alloc, name.get(), x, doing),
-        Stmt::Value(x) => expression(alloc, x, doing),
-        Stmt::Effect(name, operation, body, args) => effect(
-            alloc,
-            name,
-            *operation,
-            body,
-            args.as_slice(),
-            doing,
-        ),
-    }
+    let op = op_of(alloc, operation, body, args, &doing.variables)?;
+    asks(op, answer_in(alloc, name))
 }

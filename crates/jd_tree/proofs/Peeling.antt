@@ -157,11 +157,19 @@ pub record IsLess (current next : Expr) (es all : List Expr) : Type 0 where
   pub cells : joined (cells_of (plain current)) (taken es) ≡ joined (cells_of (plain next)) (taken all)
 
 -- a call, whose parentheses and those before are taken off
-pub call_step : (current first next : Expr) (before : List Application) (l : Listing) (es mid all : List Expr) → current ≡ variant.Call first before l → next ≡ first →
-    mid ≡ es ++ (variant.Group l ∷ []) →
-    ((f : Syntax) → is_chain (applied f (map plain_application before)) ≡ true → joined (cells_of (applied f (map plain_application before))) (taken mid) ≡ joined (cells_of f) (taken all)) →
+-- the last parentheses of a call are taken off
+pub call_off : (x : Syntax) (l : Listing) (es mid : List Expr) → mid ≡ es ++ (variant.Group l ∷ []) → is_chain (apply x (arguments (plain_listing l))) ≡ true →
+    (is_chain x ≡ true) × (joined (cells_of (apply x (arguments (plain_listing l)))) (taken es) ≡ joined (cells_of x) (taken mid))
+call_off x l es mid m h = (
+  (behind x (arguments (plain_listing l)) h).chain,
+  one_off x (arguments (plain_listing l)) (taken es) h ∙ ap (joined (cells_of x)) (sym (taken_more es mid (variant.Group l) (group_of (arguments (plain_listing l))) m (plain_group l))),
+)
+
+pub call_step : (current first next : Expr) (before : List Application) (l : Listing) (es all : List Expr) → current ≡ variant.Call first before l → next ≡ first →
+    ((f : Syntax) → is_chain (apply (applied f (map plain_application before)) (arguments (plain_listing l))) ≡ true →
+    joined (cells_of (apply (applied f (map plain_application before)) (arguments (plain_listing l)))) (taken es) ≡ joined (cells_of f) (taken all)) →
     is_chain (plain current) ≡ true → IsLess current next es all × (begins_tight (plain current) ≡ begins_tight (plain next))
-call_step current first next before l es mid all e n m takes h =
+call_step current first next before l es all e n takes h =
     let x = applied (plain first) (map plain_application before) in
     let same : plain current ≡ apply x (arguments (plain_listing l)) = ap plain e ∙ plain_call first before l in
     let b = behind x (arguments (plain_listing l)) (sym (ap is_chain same) ∙ h) in
@@ -170,19 +178,16 @@ call_step current first next before l es mid all e n m takes h =
       record {
         chain = ap is_chain (sym there) ∙ r.chain;
         first = ap first_of same ∙ b.first ∙ r.first ∙ ap first_of there;
-        cells = ap (λ y. joined (cells_of y) (taken es)) same ∙ one_off x (arguments (plain_listing l)) (taken es) (sym (ap is_chain same) ∙ h)
-            ∙ ap (joined (cells_of x)) (sym (taken_more es mid (variant.Group l) (group_of (arguments (plain_listing l))) m (plain_group l)))
-            ∙ takes (plain first) b.chain ∙ ap (λ y. joined (cells_of y) (taken all)) there;
+        cells = ap (λ y. joined (cells_of y) (taken es)) same ∙ takes (plain first) (sym (ap is_chain same) ∙ h) ∙ ap (λ y. joined (cells_of y) (taken all)) there;
       },
       ap begins_tight same ∙ b.tight ∙ r.tight ∙ ap begins_tight there,
     )
 
 -- a difference, whose operators are taken off
-pub binary_step : (current first next : Expr) (os : List Operation) (last : Operation) (es mid all : List Expr) → current ≡ variant.Binary first os last → next ≡ first →
-    joined (cells_of (ending (binary (operated (plain first) (map plain_operation os)) (plain_operation last).0) (plain_operation last).1)) (taken es) ≡ joined (cells_of (operated (plain first) (map plain_operation os))) (taken mid) →
-    joined (cells_of (operated (plain first) (map plain_operation os))) (taken mid) ≡ joined (cells_of (plain first)) (taken all) →
+pub binary_step : (current first next : Expr) (os : List Operation) (last : Operation) (es all : List Expr) → current ≡ variant.Binary first os last → next ≡ first →
+    joined (cells_of (ending (binary (operated (plain first) (map plain_operation os)) (plain_operation last).0) (plain_operation last).1)) (taken es) ≡ joined (cells_of (plain first)) (taken all) →
     is_chain (plain current) ≡ true → IsLess current next es all
-binary_step current first next os last es mid all e n a b h =
+binary_step current first next os last es all e n a h =
     let x = operated (plain first) (map plain_operation os) in
     let same : plain current ≡ ending (binary x (plain_operation last).0) (plain_operation last).1 = ap plain e ∙ plain_binary first os last in
     let c = binary_chain x (plain_operation last).0 (plain_operation last).1 (sym (ap is_chain same) ∙ h) in
@@ -191,7 +196,7 @@ binary_step current first next os last es mid all e n a b h =
     record {
       chain = ap is_chain (sym there) ∙ r.chain;
       first = ap first_of same ∙ r.first ∙ ap first_of there;
-      cells = ap (λ y. joined (cells_of y) (taken es)) same ∙ a ∙ b ∙ ap (λ y. joined (cells_of y) (taken all)) there;
+      cells = ap (λ y. joined (cells_of y) (taken es)) same ∙ a ∙ ap (λ y. joined (cells_of y) (taken all)) there;
     }
 
 pub both_tight : (e : Syntax) (d : Syntax) → is_tight_chain e ≡ true → begins_tight e ≡ begins_tight d → is_chain d ≡ true → is_tight_chain d ≡ true

@@ -220,18 +220,30 @@ fn bracket_profile(
     }
 }
 
+/// One more behind those that stand behind an operand.
+fn with_application(
+    first: Boxed<Expr>,
+    applications: Items<Application>,
+    last: Application,
+) -> Result<(Boxed<Expr>, Items<Application>), AllocError>
+    ensures { IfOk result (λ r. plain.applied (plain.plain r.0) (map plain.plain_application r.1)
+        ≡ plain.apply (plain.applied (plain.plain first) (map plain.plain_application applications)) (plain.plain_application last)) }
+{
+    let mut applications = applications;
+    applications.push(last)?;
+    Ok((first, applications))
+}
+
 /// What stands before further arguments or indexes: the first operand, and those behind it.
 fn applied(alloc: Global, left: Expr) -> Result<(Boxed<Expr>, Items<Application>), AllocError>
     ensures { IfOk result (λ r. plain.applied (plain.plain r.0) (map plain.plain_application r.1) ≡ plain.plain left) }
 {
     match left {
-        Expr::Call(first, mut applications, arguments) => {
-            applications.push(Application::Arguments(arguments))?;
-            Ok((first, applications))
+        Expr::Call(first, applications, arguments) => {
+            with_application(first, applications, Application::Arguments(arguments))
         }
-        Expr::Index(first, mut applications, indexes) => {
-            applications.push(Application::Indexes(indexes))?;
-            Ok((first, applications))
+        Expr::Index(first, applications, indexes) => {
+            with_application(first, applications, Application::Indexes(indexes))
         }
         left => Ok((Boxed::new(alloc, left)?, Items::new(alloc))),
     }
@@ -271,7 +283,14 @@ pub fn bracket_of(
     ensures { IfOk result (λ m. plain_measured m ≡ grammar.bracket (plain_bracket bracket) opens (plain_arguments most) (plain_maybe last) closes) }
 {
     let profile = bracket_profile(&bracket, opens, &most, &last);
-    let listing = Boxed::new(alloc, listing_of(opens, most, last, closes))?;
-    let expr = bracket_expr(alloc, bracket, listing)?;
-    Ok(Measured { expr, profile })
+    match Boxed::new(alloc, listing_of(opens, most, last, closes)) {
+        Ok(listing) => {
+            let expr = bracket_expr(alloc, bracket, listing)?;
+            Ok(Measured { expr, profile })
+        }
+        Err(refusal) => {
+            drop(bracket);
+            Err(refusal)
+        }
+    }
 }

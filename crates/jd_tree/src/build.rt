@@ -69,16 +69,23 @@ pub fn binary_of(
     ensures { IfOk result (λ m. plain_measured m ≡ ending (binary (plain_measured left) operator) (plain_measured operand)) }
 {
     let profile = binary_profile(left.profile, operator, operand.profile);
-    let (first, operations) = operated(alloc, left.expr)?;
-    let last = Operation {
-        operator,
-        operand: operand.expr,
-    };
-    let last = Boxed::new(alloc, last)?;
-    Ok(Measured {
-        expr: Expr::Binary(first, operations, last),
-        profile,
-    })
+    match operated(alloc, left.expr) {
+        Ok((first, operations)) => {
+            let last = Operation {
+                operator,
+                operand: operand.expr,
+            };
+            let last = Boxed::new(alloc, last)?;
+            Ok(Measured {
+                expr: Expr::Binary(first, operations, last),
+                profile,
+            })
+        }
+        Err(refusal) => {
+            drop(operand);
+            Err(refusal)
+        }
+    }
 }
 
 pub fn choice_of(
@@ -107,6 +114,20 @@ pub fn choice_of(
     })
 }
 
+/// Two expressions, each in a box.
+fn boxed(alloc: Global, one: Expr, other: Expr) -> Result<(Boxed<Expr>, Boxed<Expr>), AllocError>
+    ensures one { IfOk result (λ r. r.0 ≡ one) }
+    ensures other { IfOk result (λ r. r.1 ≡ other) }
+{
+    match Boxed::new(alloc, one) {
+        Ok(one) => Ok((one, Boxed::new(alloc, other)?)),
+        Err(refusal) => {
+            drop(other);
+            Err(refusal)
+        }
+    }
+}
+
 pub fn lambda_of(
     alloc: Global,
     names: Measured,
@@ -116,8 +137,7 @@ pub fn lambda_of(
     ensures { IfOk result (λ m. plain_measured m ≡ ending (grammar.lambda (plain_measured names) arrow) (plain_measured body)) }
 {
     let profile = lambda_profile(names.profile, body.profile);
-    let names = Boxed::new(alloc, names.expr)?;
-    let body = Boxed::new(alloc, body.expr)?;
+    let (names, body) = boxed(alloc, names.expr, body.expr)?;
     Ok(Measured {
         expr: Expr::Lambda(names, arrow, body),
         profile,
@@ -133,8 +153,7 @@ pub fn spawn_of(
     ensures { IfOk result (λ m. plain_measured m ≡ ending (grammar.spawn word (plain_measured place)) (plain_measured body)) }
 {
     let profile = spawn_profile(place.profile, body.profile);
-    let place = Boxed::new(alloc, place.expr)?;
-    let body = Boxed::new(alloc, body.expr)?;
+    let (place, body) = boxed(alloc, place.expr, body.expr)?;
     Ok(Measured {
         expr: Expr::Spawn(word, place, body),
         profile,

@@ -20,6 +20,4 @@ pub mod parts;
 mod peel;
 pub mod profile;
 pub mod rows;
-#[cfg(test)]
-mod tests;
 pub mod tree;

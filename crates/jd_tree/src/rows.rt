@@ -46,20 +46,28 @@ fn in_row(atoms: Atoms, atom: Measured) -> Result<Atoms, AllocError>
         single,
         even,
     } = atoms;
-    items.push(Cell {
+    let cell = Cell {
         semicolon: None,
         atom: atom.expr,
-    })?;
-    let count = items.len();
-    Ok(Atoms {
-        first,
-        items,
-        nesting: nesting.max(atom.profile.nesting),
-        first_more: first_with_atom(single, count, first_more),
-        last_more: last_more + 1,
-        single,
-        even,
-    })
+    };
+    match items.push(cell) {
+        Ok(()) => {
+            let count = items.len();
+            Ok(Atoms {
+                first,
+                items,
+                nesting: nesting.max(atom.profile.nesting),
+                first_more: first_with_atom(single, count, first_more),
+                last_more: last_more + 1,
+                single,
+                even,
+            })
+        }
+        Err(refusal) => {
+            drop(first);
+            Err(refusal)
+        }
+    }
 }
 
 /// An atom that begins a row.
@@ -76,19 +84,25 @@ fn in_next_row(atoms: Atoms, semicolon: Token, atom: Measured) -> Result<Atoms, 
         single: _,
         even,
     } = atoms;
-    items.push(Cell {
+    let cell = Cell {
         semicolon: Some(semicolon),
         atom: atom.expr,
-    })?;
-    Ok(Atoms {
-        first,
-        items,
-        nesting: nesting.max(atom.profile.nesting),
-        first_more,
-        last_more: 0,
-        single: false,
-        even: even_with_row(even, last_more, first_more),
-    })
+    };
+    match items.push(cell) {
+        Ok(()) => Ok(Atoms {
+            first,
+            items,
+            nesting: nesting.max(atom.profile.nesting),
+            first_more,
+            last_more: 0,
+            single: false,
+            even: even_with_row(even, last_more, first_more),
+        }),
+        Err(refusal) => {
+            drop(first);
+            Err(refusal)
+        }
+    }
 }
 
 /// One atom more, behind the `;` that begins its row or in the last row.
@@ -185,15 +199,22 @@ pub fn split(alloc: Global, row: Measured) -> Result<Atoms, AllocError>
     let nesting = row.profile.row;
     let mut taken_off = Items::new(alloc);
     let first = take_all(alloc, &mut taken_off, row.expr)?;
-    let items = in_order(alloc, taken_off)?;
-    let count = items.len();
-    Ok(Atoms {
-        first,
-        items,
-        nesting,
-        first_more: count,
-        last_more: count,
-        single: true,
-        even: true,
-    })
+    match in_order(alloc, taken_off) {
+        Ok(items) => {
+            let count = items.len();
+            Ok(Atoms {
+                first,
+                items,
+                nesting,
+                first_more: count,
+                last_more: count,
+                single: true,
+                even: true,
+            })
+        }
+        Err(refusal) => {
+            drop(first);
+            Err(refusal)
+        }
+    }
 }

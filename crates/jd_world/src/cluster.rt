@@ -54,6 +54,20 @@ impl World {
         }
     }
 
+    /// The effects so far, in their order.
+    pub fn marks(&self) -> &[Mark]
+        ensures { result.now ≡ (whole_of self.now).marks }
+    {
+        self.outside.marks.as_slice()
+    }
+
+    /// How many events were counted, those of workers and links.
+    pub fn events(&self) -> u64
+        ensures { result ≡ (whole_of self.now).outside.events }
+    {
+        self.outside.events
+    }
+
     /// The oldest message of process 1 to that process leaves.
     fn emit(&mut self, to: u32) -> Result<(), StepFault>
         ensures tries { WorldTries (moves (net_of self.old) (Emit 1 to)) (whole_of self.old) (whole_of self.new) result }

@@ -17,8 +17,6 @@ mod receive;
 mod rows;
 mod step;
 mod step_fault;
-#[cfg(test)]
-mod tests;
 mod worker;
 mod workers;
 mod world;

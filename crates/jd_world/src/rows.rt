@@ -24,7 +24,7 @@ fn place(rows: &mut BTreeMap<u32, Worker>, number: u32, worker: Worker) -> Resul
     ensures ok { OnOk result (Updates nat_cmp rows.old rows.new number (Some worker)) }
     ensures err { OnErr result (rows.new.entries ≡ rows.old.entries) }
 {
-    rows.insert(number, worker)?;
+    drop(rows.insert(number, worker)?);
     Ok(())
 }
 
@@ -79,10 +79,12 @@ impl Workers {
             links: Mail::new(self.alloc),
         };
         match worker.links.push(from, msg) {
-            Ok(()) => {}
-            Err(_) => return Err(OutOfMemory),
+            Ok(()) => place(&mut self.rows, to, worker),
+            Err(refused) => {
+                drop(worker);
+                Err(refused)
+            }
         }
-        place(&mut self.rows, to, worker)
     }
 
     /// Takes the oldest message of the first process to the second out of its outbox.

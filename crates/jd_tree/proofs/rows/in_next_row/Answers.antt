@@ -11,9 +11,9 @@ use Rattle.jd_tree.proofs.rows.in_next_row.Goals as goal
 
 pub invariant_of-result : goal.invariant_of-result
 invariant_of-result c =
-    let e = cells_are c.args.atoms.items (Some c.args.semicolon) c.args.atom.expr c.push.new.self c.in_ok-push.ensures.ok in
+    let e = cells_are c.args.atoms.items (Some c.args.semicolon) c.args.atom.expr c.push.new.self c.in-Ok.ensures.ok in
     record {
-      measured = atoms_height (plain c.args.atoms.first) c.args.atoms.items (Some c.args.semicolon) c.args.atom.expr c.push.new.self c.args.atoms.nesting c.args.atom.profile.nesting c.max.result c.in_ok-push.ensures.ok c.args.atoms.measured
+      measured = atoms_height (plain c.args.atoms.first) c.args.atoms.items (Some c.args.semicolon) c.args.atom.expr c.push.new.self c.args.atoms.nesting c.args.atom.profile.nesting c.max.result c.in-Ok.ensures.ok c.args.atoms.measured
           (fields c.args.atom.profile (plain c.args.atom.expr) c.args.atom.measured).nesting c.max.ensures;
       first_row = ap (first_width 1) e ∙ first_row 1 (plain_atoms c.args.atoms) c.args.semicolon (plain c.args.atom.expr) ∙ c.args.atoms.first_row;
       last_row = ap (last_width 1) e ∙ last_row 1 (plain_atoms c.args.atoms) c.args.semicolon (plain c.args.atom.expr);
@@ -22,5 +22,5 @@ invariant_of-result c =
           c.args.atoms.first_row c.args.atoms.last_row c.args.atoms.even_rows c.even_with_row.ensures ∙ ap (λ cells. are_even (first_width 1 cells) 1 cells) (sym e);
     }
 
-pub returns-clause-others : goal.returns-clause-others
-returns-clause-others c = cells_are c.args.atoms.items (Some c.args.semicolon) c.args.atom.expr c.push.new.self c.in_ok-push.ensures.ok
+pub returns-in-Ok-clause-others : goal.returns-in-Ok-clause-others
+returns-in-Ok-clause-others c = cells_are c.args.atoms.items (Some c.args.semicolon) c.args.atom.expr c.push.new.self c.in-Ok.ensures.ok

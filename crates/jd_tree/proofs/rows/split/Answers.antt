@@ -13,19 +13,19 @@ use Rattle.jd_tree.proofs.rows.split.Goals as goal
 pub invariant_of-result : goal.invariant_of-result
 invariant_of-result c =
     let e = plain c.args.row.expr in
-    let cells = cells_at (map plain_cell c.in_ok-items.items) in
-    let all : cells ≡ cells_of e = c.in_ok-items.ensures ∙ sym c.in_ok-first.ensures.others ∙ ap (λ es. joined (cells_of e) (taken es)) c.new-taken_off.ensures ∙ joined_none (cells_of e) in
+    let cells = cells_at (map plain_cell c.in-Ok.items) in
+    let all : cells ≡ cells_of e = c.in-Ok.ensures ∙ sym c.in_ok-first.ensures.others ∙ ap (λ es. joined (cells_of e) (taken es)) c.new-taken_off.ensures ∙ joined_none (cells_of e) in
     let single : are_single cells ≡ true = ap are_single all ∙ single_cells e in
     record {
       measured = row_numbers e c.args.row.profile.row c.requires (fields c.args.row.profile e c.args.row.measured).row
           ∙ ap (λ x. min (max (height x) (height_cells (cells_of e))) 255) (sym c.in_ok-first.ensures.first) ∙ ap (λ x. min (max (height (plain c.in_ok-first.first)) (height_cells x)) 255) (sym all);
-      first_row = first_of_single 1 cells single ∙ omega (arith, count_length c.in_ok-items.items);
-      last_row = last_of_single 1 cells single ∙ omega (arith, count_length c.in_ok-items.items);
+      first_row = first_of_single 1 cells single ∙ omega (arith, count_length c.in-Ok.items);
+      last_row = last_of_single 1 cells single ∙ omega (arith, count_length c.in-Ok.items);
       one_row = sym single;
       even_rows = sym (even_of_single (first_width 1 cells) 1 cells single);
     }
 
-pub returns-clause-others : goal.returns-clause-others
-returns-clause-others c =
+pub returns-in-Ok-clause-others : goal.returns-in-Ok-clause-others
+returns-in-Ok-clause-others c =
     let e = plain c.args.row.expr in
-    c.in_ok-items.ensures ∙ sym c.in_ok-first.ensures.others ∙ ap (λ es. joined (cells_of e) (taken es)) c.new-taken_off.ensures ∙ joined_none (cells_of e)
+    c.in-Ok.ensures ∙ sym c.in_ok-first.ensures.others ∙ ap (λ es. joined (cells_of e) (taken es)) c.new-taken_off.ensures ∙ joined_none (cells_of e)

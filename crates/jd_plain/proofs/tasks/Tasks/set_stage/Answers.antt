@@ -12,8 +12,8 @@ returns-in-Running c =
     by_task-write task_of (task_at c.args.stage) c.args.self.now.held (c.get_mut.follows.lender w) c.args.task c.in-Some.held.now w c.in-Some.ensures.value
     (c.get_mut.follows.holds w).3 (search rules)
 
-pub returns-in_default-life : goal.returns-in_default-life
-returns-in_default-life c =
+pub returns-in_default : goal.returns-in_default
+returns-in_default c =
     let w : Task = c.in-Some.held.now in
     by_task-write task_of (task_at c.args.stage) c.args.self.now.held (c.get_mut.follows.lender w) c.args.task w w c.in-Some.ensures.value
-    (c.get_mut.follows.holds w).3 (task_at-other c.args.stage (task_of w) c.in_default-life.not-Running)
+    (c.get_mut.follows.holds w).3 (task_at-other c.args.stage (task_of w) c.in_default.not-Running)

@@ -5,11 +5,11 @@ use Rattle.jd_node.specs.Mail.{mail_of}
 use Rattle.jd_world.proofs.Written.{on_ok, first_nodes, first_links, keyed_placed}
 use Rattle.jd_world.proofs.workers.Workers.send_first.Goals as goal
 
-pub returns-clause-nodes : goal.returns-clause-nodes
-returns-clause-nodes c = on_ok c.place.result c.place.ensures.ok (λ u. first_nodes c.args.self.now _ c.args.to _ refl c.requires u c.new.ensures.node)
+pub returns-in-Ok-clause-nodes : goal.returns-in-Ok-clause-nodes
+returns-in-Ok-clause-nodes c = on_ok c.place.result c.place.ensures.ok (λ u. first_nodes c.args.self.now _ c.args.to _ refl c.requires u c.new.ensures.node)
 
-pub returns-clause-links : goal.returns-clause-links
-returns-clause-links c = on_ok c.place.result c.place.ensures.ok (λ u.
+pub returns-in-Ok-clause-links : goal.returns-in-Ok-clause-links
+returns-in-Ok-clause-links c = on_ok c.place.result c.place.ensures.ok (λ u.
     let P : (ℕ → List Msg) → Type 0 = λ l. mail_of c.push.new.self ≡ put l c.args.from (l c.args.from ++ c.args.msg ∷ []) in
     first_links c.args.self.now _ c.args.to c.args.from _ c.args.msg c.requires u (subst P c.new-2.ensures c.in-Ok.ensures))
 
