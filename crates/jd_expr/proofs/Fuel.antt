@@ -1,26 +1,19 @@
 -- A number of levels that is no less than the units plays no part.
-use Rattle.std.proofs.Common.{◌≡◌, ℕ, zero, suc, ◌-◌, ◌<◌, ◌≤◌, ◌==◌, true, false, if◌then◌else◌, List, [], ◌∷◌, ◌++◌, Ok, Err, refl, sym, ap, ◌∙◌, subst, arith}
+use Rattle.std.proofs.Common.{◌≡◌, ℕ, zero, suc, ◌-◌, ◌<◌, ◌≤◌, ◌==◌, Bool, true, false, if◌then◌else◌, List, [], ◌∷◌, ◌++◌, Ok, Err, refl, sym, ap, ◌∙◌, subst, arith}
 use Rattle.std.proofs.lemmas.Grind.{common_steps}
 use Rattle.std.specs.Prelude.{Result}
 use Rattle.jd_value.specs.declared.fault.Fault.{Fault}
 use Rattle.jd_value.specs.declared.fault.Fault.TheVariants as fault
 use Rattle.jd_value.specs.declared.value.Value.{Value}
+use Rattle.jd_value.specs.declared.value.Value.TheVariants.{True, False}
 use Rattle.jd_value.specs.declared.builtin.Builtin.{Builtin}
 use Rattle.jd_value.specs.declared.expr.Expr.{Expr, out-Expr}
 use Rattle.jd_value.specs.declared.expr.Expr.TheOpen.{Expr-F}
-use Rattle.jd_expr.specs.Action.{Action, Ran, Done, Failed, and_then, lift, lift_to, unit}
-use Rattle.jd_expr.specs.Arithmetic.{builtin}
+use Rattle.jd_expr.specs.Action.{Action, Ran, Done, Failed, and_then, pure, lift, lift_to, unit}
+use Rattle.jd_expr.specs.Builtins.{builtin}
 use Rattle.jd_expr.specs.Variables.{Variables, named}
-use Rattle.jd_expr.specs.Meaning.{Meaning, meaning, each_from, each, applied, node_at, node}
-
--- no more is left than there was
-abbrev pub Within : {A : Type 0} → ℕ → Ran ℕ A → Type 0
-Within n (Done a m) = m ≤ n
-Within n (Failed f m) = m ≤ n
-
-pub within_le : {A : Type 0} (n m : ℕ) (r : Ran ℕ A) → n ≤ m → Within n r → Within m r
-within_le n m (Done a k) h w = omega (arith, h, w)
-within_le n m (Failed f k) h w = omega (arith, h, w)
+use Rattle.jd_expr.specs.Meaning.{Meaning, meaning, condition, each_from, each, applied, decision, both, either, chosen, node_at, node}
+use Rattle.jd_expr.proofs.Spending.{Within, within_le, spends_builtin}
 
 -- two runs are one, and leave no more than there was
 abbrev pub Agrees : {A : Type 0} → ℕ → Ran ℕ A → Ran ℕ A → Type 0
@@ -49,7 +42,7 @@ each_agrees m k n h done calls vars (x ∷ xs) u le =
     (h calls vars x u le)
     (λ value v below. each_agrees m k n h (done ++ value ∷ []) calls vars xs v (omega (arith, below, le)))
 
-pub lift_agrees : (r : Result Value Fault) (n : ℕ) → Agrees n (lift_to n r) (lift_to n r)
+pub lift_agrees : {A : Type 0} (r : Result A Fault) (n : ℕ) → Agrees n (lift_to n r) (lift_to n r)
 lift_agrees (Ok a) n = (refl, omega arith)
 lift_agrees (Err e) n = (refl, omega arith)
 
@@ -58,16 +51,69 @@ pub applied_agrees : (m k : Meaning) (n : ℕ) → AreOne n m k → (calls : ℕ
 unfolding applied each
 applied_agrees m k n h calls vars f xs u le =
     then_agrees u (each_from m [] calls vars xs u) (each_from k [] calls vars xs u)
-    (λ values. lift (builtin f values)) (λ values. lift (builtin f values))
+    (builtin f) (builtin f)
     (each_agrees m k n h [] calls vars xs u le)
-    (λ values v below. lift_agrees (builtin f values) v)
+    (λ values v below. (refl, spends_builtin f values v))
+
+test_agrees : (m k : Meaning) (n : ℕ) → AreOne n m k → (calls : ℕ) (vars : Variables) (x : Expr) (u : ℕ) → u ≤ n
+    → Agrees u (decision m calls vars x u) (decision k calls vars x u)
+unfolding decision
+test_agrees m k n h calls vars x u le =
+    then_agrees u (m.eval calls vars x u) (k.eval calls vars x u)
+    (λ value. lift (condition value)) (λ value. lift (condition value))
+    (h calls vars x u le)
+    (λ value v below. lift_agrees (condition value) v)
+
+pure_agrees : (n : ℕ) (value : Value) → Agrees n (Done value n) (Done value n)
+pure_agrees n value = (refl, omega arith)
+
+-- what follows a test
+branch_agrees : (m k : Meaning) (n : ℕ) → AreOne n m k → (calls : ℕ) (vars : Variables) (x : Expr) (f g : Bool → Action ℕ Value) (u : ℕ) → u ≤ n
+    → ((v : ℕ) → v ≤ n → Agrees v (f true v) (g true v)) → ((v : ℕ) → v ≤ n → Agrees v (f false v) (g false v))
+    → Agrees u (and_then (decision m calls vars x u) f) (and_then (decision k calls vars x u) g)
+branch_agrees m k n h calls vars x f g u le first second =
+    then_agrees u (decision m calls vars x u) (decision k calls vars x u) f g
+    (test_agrees m k n h calls vars x u le)
+    (λ holds v below. elim holds as (λ b. Agrees v (f b v) (g b v)) [
+      | true ↦ first v (omega (arith, below, le))
+      | false ↦ second v (omega (arith, below, le))
+    ])
+
+both_agrees : (m k : Meaning) (n : ℕ) → AreOne n m k → (calls : ℕ) (vars : Variables) (x y : Expr) (u : ℕ) → u ≤ n
+    → Agrees u (both m calls vars x y u) (both k calls vars x y u)
+unfolding both
+both_agrees m k n h calls vars x y u le =
+    branch_agrees m k n h calls vars x
+    (λ holds. if holds then m.eval calls vars y else pure False) (λ holds. if holds then k.eval calls vars y else pure False) u le
+    (λ v below. h calls vars y v below) (λ v below. pure_agrees v False)
+
+either_agrees : (m k : Meaning) (n : ℕ) → AreOne n m k → (calls : ℕ) (vars : Variables) (x y : Expr) (u : ℕ) → u ≤ n
+    → Agrees u (either m calls vars x y u) (either k calls vars x y u)
+unfolding either
+either_agrees m k n h calls vars x y u le =
+    branch_agrees m k n h calls vars x
+    (λ holds. if holds then pure True else m.eval calls vars y) (λ holds. if holds then pure True else k.eval calls vars y) u le
+    (λ v below. pure_agrees v True) (λ v below. h calls vars y v below)
+
+chosen_agrees : (m k : Meaning) (n : ℕ) → AreOne n m k → (calls : ℕ) (vars : Variables) (x y z : Expr) (u : ℕ) → u ≤ n
+    → Agrees u (chosen m calls vars x y z u) (chosen k calls vars x y z u)
+unfolding chosen
+chosen_agrees m k n h calls vars x y z u le =
+    branch_agrees m k n h calls vars x
+    (λ holds. if holds then m.eval calls vars y else m.eval calls vars z) (λ holds. if holds then k.eval calls vars y else k.eval calls vars z) u le
+    (λ v below. h calls vars y v below) (λ v below. h calls vars z v below)
 
 pub node_at_agrees : (m k : Meaning) (n : ℕ) → AreOne n m k → (calls : ℕ) (vars : Variables) (x : Expr-F Expr) (u : ℕ) → u ≤ n
     → Agrees u (node_at m calls vars x u) (node_at k calls vars x u)
 node_at_agrees m k n h calls vars (Expr-F.Int i) u le = (refl, omega arith)
+node_at_agrees m k n h calls vars (Expr-F.Truth holds) u le = (refl, omega arith)
+node_at_agrees m k n h calls vars Expr-F.Nothing u le = (refl, omega arith)
 node_at_agrees m k n h calls vars (Expr-F.Text text) u le = (refl, omega arith)
 node_at_agrees m k n h calls vars (Expr-F.Name name) u le = lift_agrees (named name vars) u
 node_at_agrees m k n h calls vars (Expr-F.Apply f xs) u le = applied_agrees m k n h calls vars f xs u le
+node_at_agrees m k n h calls vars (Expr-F.And x y) u le = both_agrees m k n h calls vars x y u le
+node_at_agrees m k n h calls vars (Expr-F.Or x y) u le = either_agrees m k n h calls vars x y u le
+node_at_agrees m k n h calls vars (Expr-F.Choose x y z) u le = chosen_agrees m k n h calls vars x y z u le
 
 pub node_agrees : (m k : Meaning) (n : ℕ) → AreOne n m k → (calls : ℕ) (vars : Variables) (x : Expr) (u : ℕ) → u ≤ n
     → Agrees u (node m calls vars x u) (node k calls vars x u)

@@ -1,3 +1,12 @@
 pub mod Depth
+pub mod Folded
 pub mod Fuel
+pub mod Gridded
+pub mod Limited
 pub mod Mapped
+pub mod Passing
+pub mod Picks
+pub mod Sized
+pub mod Sliced
+pub mod Spanned
+pub mod Spending

@@ -1,5 +1,5 @@
 -- Actions over a state: they give a value or a fault, and leave a state.
-use Rattle.std.specs.Prelude.{◌≡◌, ℕ, ◌-◌, ◌==◌, if◌then◌else◌, Result, Ok, Err}
+use Rattle.std.specs.Prelude.{◌≡◌, ℕ, ◌-◌, ◌==◌, nat_lt, if◌then◌else◌, Result, Ok, Err}
 use Rattle.jd_value.specs.declared.fault.Fault.{Fault}
 use Rattle.jd_value.specs.declared.fault.Fault.TheVariants as fault
 use Rattle.jd_expr.specs.declared.stop.Stop.{Stop}
@@ -42,6 +42,10 @@ lift r = λ s. lift_to s r
 -- One unit is spent. Where none is left, that is the fault of the step.
 abbrev pub unit : Action ℕ (Unit {0})
 unit = λ n. if n == 0 then Failed fault.Budget n else Done tt (n - 1)
+
+-- So many units are spent at once. Where fewer are left, they are gone, and that is the fault of the step.
+abbrev pub units : ℕ → Action ℕ (Unit {0})
+units k = λ n. if nat_lt n k then Failed fault.Budget 0 else Done tt (n - k)
 
 -- A function's answer, with the state that it left, is what the action gives, unless memory ran out.
 abbrev pub Gives : {S A : Type 0} → Ran S A → Result A Stop → S → Type 0

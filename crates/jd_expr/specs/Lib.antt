@@ -1,6 +1,16 @@
 pub mod Action
 pub mod Arithmetic
+pub mod Builtins
+pub mod Cells
+pub mod Collections
+pub mod Comparing
 pub mod Entries
+pub mod Grids
+pub mod Indexing
+pub mod Limits
+pub mod Making
 pub mod Meaning
 pub mod Nests
+pub mod Ranges
+pub mod Throwing
 pub mod Variables

@@ -1,6 +1,6 @@
 //! The units of a step.
 ghost use Rattle.std.specs.Prelude.{◌≡◌};
-ghost use Rattle.jd_expr.specs.Action.{Gives, unit};
+ghost use Rattle.jd_expr.specs.Action.{Gives, unit, units};
 
 use crate::stop::Stop;
 use jd_value::Fault;
@@ -46,6 +46,18 @@ impl Budget {
             return Err(Stop::Faulted(Fault::Budget));
         }
         self.left -= 1;
+        Ok(())
+    }
+
+    /// Spends so many units at once. Where fewer are left, they are gone, and that is the fault `Budget`.
+    pub(crate) fn spend_all(&mut self, count: u128) -> Result<(), Stop>
+        ensures { Gives (units count self.old) result self.new }
+    {
+        if u128::from(self.left) < count {
+            self.left = 0;
+            return Err(Stop::Faulted(Fault::Budget));
+        }
+        self.left -= count as u64;
         Ok(())
     }
 }

@@ -5,6 +5,7 @@ ghost use Rattle.std.specs.Map.Iter.{deref_pair};
 ghost use Rattle.jd_expr.specs.Entries.{variable, variables};
 ghost use Rattle.jd_expr.specs.Variables.{value_of, with_value, without};
 
+use crate::drops::{let_go, put};
 use indexmap::IndexMap;
 use jd_value::{OutOfMemory, Txt, Value};
 use std::alloc::Global;
@@ -19,10 +20,14 @@ pub struct Env {
 
 impl Model for Env {
     ghost use Rattle.std.specs.Prelude.{List};
+    ghost use Rattle.std.specs.Coded.{codes};
     ghost use Rattle.jd_expr.specs.declared.variable.Variable.{Variable};
+    ghost use Rattle.jd_expr.specs.contracts.variable.Variable as one;
     ghost use Rattle.jd_expr.specs.Entries.{variables};
 
     ghost Value = { List Variable };
+
+    ghost coded = { Prim.hlevel (codes, one.the_row.coded) };
 
     ghost view = { λ e. variables e.values.entries };
 }
@@ -32,8 +37,26 @@ fn add(values: &mut IndexMap<Txt, Value>, name: Txt, value: Value) -> Result<(),
     ensures ok { OnOk result (variables values.new.entries ≡ with_value name value (variables values.old.entries)) }
     ensures err { OnErr result (values.new.entries ≡ values.old.entries) }
 {
-    values.insert(name, value)?;
+    let_go(values.insert(name, value)?);
     Ok(())
+}
+
+/// Adds a variable of this name at the end.
+fn add_copied(
+    values: &mut IndexMap<Txt, Value>,
+    name: &Txt,
+    value: Value,
+) -> Result<(), OutOfMemory>
+    ensures ok { OnOk result (variables values.new.entries ≡ with_value name.now value (variables values.old.entries)) }
+    ensures err { OnErr result (values.new.entries ≡ values.old.entries) }
+{
+    match name.copy() {
+        Ok(name) => add(values, name, value),
+        Err(error) => {
+            let_go(value);
+            Err(error)
+        }
+    }
 }
 
 /// Gives a variable a value, in its place or at the end.
@@ -43,10 +66,10 @@ fn set_in(values: &mut IndexMap<Txt, Value>, name: &Txt, value: Value) -> Result
 {
     match values.get_mut(name) {
         Some(held) => {
-            *held = value;
+            put(held, value);
             Ok(())
         }
-        None => add(values, name.copy()?, value),
+        None => add_copied(values, name, value),
     }
 }
 

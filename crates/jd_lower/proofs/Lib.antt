@@ -1,4 +1,6 @@
 pub mod Trees
+pub mod Binding
+pub mod Collecting
 pub mod Lowered
 pub mod Printing
 pub mod Spelling

@@ -9,24 +9,24 @@ use Rattle.jd_value.specs.declared.operation.Operation.TheVariants as operation
 use Rattle.jd_value.specs.declared.tree.Stmt.{Stmt, out-Stmt, out-roll-Stmt}
 use Rattle.jd_value.specs.declared.tree.Stmt.TheVariants as statement
 use Rattle.jd_value.specs.declared.tree.Stmt.TheOpen.{Stmt-F}
+use Rattle.jd_value.specs.declared.tree.Arm.{Arm}
 use Rattle.jd_value.specs.declared.tree.Body.{Body, out-Body, out-roll-Body}
 use Rattle.jd_value.specs.declared.tree.Block.{Block, out-Block, out-roll-Block}
 use Rattle.jd_value.specs.declared.tree.Program.{Program}
 use Rattle.jd_grammar.specs.declared.token.Word.TheVariants as word
 use Rattle.jd_grammar.specs.Kinds.{is_comma, is_word}
-use Rattle.jd_grammar.specs.Grammar.{Syntax, leaf, bracket, called, Items, none, more, Maybe, nothing, just, name_of}
+use Rattle.jd_grammar.specs.Grammar.{Syntax, bracket, called, Items, none, more, Maybe, nothing, just, name_of}
 use Rattle.jd_grammar.specs.Script as script
 use Rattle.jd_grammar.specs.Script.{block, Lines, no_lines, line, Place, empty, stmt, ended, bare, assigned}
 use Rattle.jd_lower.specs.declared.draft.Draft.{Draft}
 use Rattle.jd_lower.specs.declared.calls.RemoteCall.{RemoteCall}
 use Rattle.jd_lower.specs.Steps.{Step, and_then, ◌>>=◌, ◌>>◌, pure, refuse, give, variable, write, nothing_written}
 use Rattle.jd_lower.specs.Names.{name_in, is_fetch, is_remote_call}
-use Rattle.jd_lower.specs.Sums.{call_of, sum_of}
-use Rattle.jd_lower.specs.Lowering.{body_of, remote_call, fetched, fetch_into, fetch_value, text_or_operand, argument, arguments, last_argument, all_arguments, print, print_line, set, call_into, assign, stmt_line, line_at, lines_of, block_of, program_of, program_written}
+use Rattle.jd_lower.specs.declared.scope.Scope.{Scope}
+use Rattle.jd_lower.specs.Scopes.{scope_of}
+use Rattle.jd_lower.specs.Expressions.{call_of, expression_of}
+use Rattle.jd_lower.specs.Lowering.{body_of, remote_call, fetched, fetch_into, fetch_value, argument, arguments, last_argument, all_arguments, print, print_line, set, call_into, assign, stmt_line, line_at, lines_of, block_of, program_of, program_written}
 use Rattle.jd_lower.specs.Laws.{called_at, called_by, up_to, AreNumberedInOrder}
-
-abbrev Lists : Type 0
-Lists = List (List ℕ)
 
 -- the bodies that are called so far have the numbers that were given so far
 abbrev Numbered : Draft → Type 0
@@ -85,7 +85,7 @@ up_more n = let next : suc n ≡ n + 1 = omega arith in ap up_to next
 one_more : (xs : List Stmt) (x : Stmt) → called_by (xs ++ x ∷ []) ≡ called_by xs ++ (called_at (out-Stmt x) ++ [])
 one_more xs x = flat_map-append (λ y. called_at (out-Stmt y)) xs (x ∷ [])
 
-keeps_write : (x : Stmt-F Stmt Block Body) (y : Stmt) → out-Stmt y ≡ x → called_at x ≡ [] → Keeps (write y)
+keeps_write : (x : Stmt-F Stmt Arm Block Body) (y : Stmt) → out-Stmt y ≡ x → called_at x ≡ [] → Keeps (write y)
 keeps_write x y same calls s n =
     leaves tt (record s { stmts = s.stmts ++ y ∷ [] })
     (one_more s.stmts y ∙ ap (λ z. called_by s.stmts ++ (called_at z ++ [])) same ∙ ap (λ ks. called_by s.stmts ++ (ks ++ [])) calls ∙ append_none (called_by s.stmts) ∙ n)
@@ -119,28 +119,27 @@ keeps_fetch x =
     (λ name. keeps_then variable (λ answer. fetch_into answer name >> pure (e.Name answer)) keeps_variable
     (λ answer. keeps_then (fetch_into answer name) (λ _. pure (e.Name answer)) (keeps_effect answer operation.Fetch (e.Name name ∷ [])) (λ _. keeps_pure (e.Name answer))))
 
-keeps_argument : (texts names : Lists) (x : Syntax) → Keeps (argument texts names x)
-keeps_argument texts names (leaf t) = keeps_give (text_or_operand texts names t.kind)
-keeps_argument texts names (bracket (called f) o most last c) =
-    keeps_if (is_fetch names (name_of f)) (fetch_value (fetched names most last)) (give (call_of names (name_of f) most last)) (keeps_fetch (fetched names most last)) (keeps_give (call_of names (name_of f) most last))
-keeps_argument texts names x = keeps_give (sum_of names x)
+keeps_argument : (scope : Scope) (x : Syntax) → Keeps (argument scope x)
+keeps_argument scope (bracket (called f) o most last c) =
+    keeps_if (is_fetch scope.names (name_of f)) (fetch_value (fetched scope most last)) (give (call_of scope (name_of f) most last)) (keeps_fetch (fetched scope most last)) (keeps_give (call_of scope (name_of f) most last))
+keeps_argument scope x = keeps_give (expression_of scope x)
 
-keeps_arguments : (texts names : Lists) (xs : Items) → Keeps (arguments texts names xs)
-keeps_arguments texts names none = keeps_pure []
-keeps_arguments texts names (more x t xs) =
-    keeps_if (is_comma t.kind) (argument texts names x >>= (λ y. arguments texts names xs >>= (λ ys. pure (y ∷ ys)))) refuse
-    (keeps_then (argument texts names x) (λ y. arguments texts names xs >>= (λ ys. pure (y ∷ ys))) (keeps_argument texts names x)
-    (λ y. keeps_then (arguments texts names xs) (λ ys. pure (y ∷ ys)) (keeps_arguments texts names xs) (λ ys. keeps_pure (y ∷ ys))))
+keeps_arguments : (scope : Scope) (xs : Items) → Keeps (arguments scope xs)
+keeps_arguments scope none = keeps_pure []
+keeps_arguments scope (more x t xs) =
+    keeps_if (is_comma t.kind) (argument scope x >>= (λ y. arguments scope xs >>= (λ ys. pure (y ∷ ys)))) refuse
+    (keeps_then (argument scope x) (λ y. arguments scope xs >>= (λ ys. pure (y ∷ ys))) (keeps_argument scope x)
+    (λ y. keeps_then (arguments scope xs) (λ ys. pure (y ∷ ys)) (keeps_arguments scope xs) (λ ys. keeps_pure (y ∷ ys))))
     keeps_refuse
 
-keeps_last : (texts names : Lists) (last : Maybe) → Keeps (last_argument texts names last)
-keeps_last texts names nothing = keeps_pure []
-keeps_last texts names (just x) = keeps_then (argument texts names x) (λ y. pure (y ∷ [])) (keeps_argument texts names x) (λ y. keeps_pure (y ∷ []))
+keeps_last : (scope : Scope) (last : Maybe) → Keeps (last_argument scope last)
+keeps_last scope nothing = keeps_pure []
+keeps_last scope (just x) = keeps_then (argument scope x) (λ y. pure (y ∷ [])) (keeps_argument scope x) (λ y. keeps_pure (y ∷ []))
 
-keeps_all : (texts names : Lists) (most : Items) (last : Maybe) → Keeps (all_arguments texts names most last)
-keeps_all texts names most last =
-    keeps_then (arguments texts names most) (λ xs. last_argument texts names last >>= (λ ys. pure (xs ++ ys))) (keeps_arguments texts names most)
-    (λ xs. keeps_then (last_argument texts names last) (λ ys. pure (xs ++ ys)) (keeps_last texts names last) (λ ys. keeps_pure (xs ++ ys)))
+keeps_all : (scope : Scope) (most : Items) (last : Maybe) → Keeps (all_arguments scope most last)
+keeps_all scope most last =
+    keeps_then (arguments scope most) (λ xs. last_argument scope last >>= (λ ys. pure (xs ++ ys))) (keeps_arguments scope most)
+    (λ xs. keeps_then (last_argument scope last) (λ ys. pure (xs ++ ys)) (keeps_last scope last) (λ ys. keeps_pure (xs ++ ys)))
 
 keeps_print : (values : List Expr) → Keeps (print values)
 keeps_print values =
@@ -148,44 +147,44 @@ keeps_print values =
     (λ answer. keeps_then (write (statement.Effect answer operation.Print None values)) (λ _. write (statement.Value (e.Name answer))) (keeps_effect answer operation.Print values)
     (λ _. keeps_value (e.Name answer)))
 
-keeps_line : (texts names : Lists) (x : Syntax) → Keeps (print_line texts names x)
-keeps_line texts names (bracket (called f) o most last c) =
-    keeps_if (is_word word.Println (name_of f)) (all_arguments texts names most last >>= print) refuse
-    (keeps_then (all_arguments texts names most last) print (keeps_all texts names most last) keeps_print) keeps_refuse
-keeps_line texts names x = keeps_refuse
+keeps_line : (scope : Scope) (x : Syntax) → Keeps (print_line scope x)
+keeps_line scope (bracket (called f) o most last c) =
+    keeps_if (is_word word.Println (name_of f)) (all_arguments scope most last >>= print) refuse
+    (keeps_then (all_arguments scope most last) print (keeps_all scope most last) keeps_print) keeps_refuse
+keeps_line scope x = keeps_refuse
 
-keeps_sum : (x : List ℕ) (sum : Option Expr) → Keeps (set x sum)
-keeps_sum x sum = keeps_then (give sum) (λ y. write (statement.Set x y)) (keeps_give sum) (keeps_set x)
+keeps_value_in : (x : List ℕ) (value : Option Expr) → Keeps (set x value)
+keeps_value_in x value = keeps_then (give value) (λ y. write (statement.Set x y)) (keeps_give value) (keeps_set x)
 
 keeps_fetched : (x : List ℕ) (y : Option (List ℕ)) → Keeps (give y >>= fetch_into x)
 keeps_fetched x y = keeps_then (give y) (fetch_into x) (keeps_give y) (λ name. keeps_effect x operation.Fetch (e.Name name ∷ []))
 
-keeps_assign : (names : Lists) (x : List ℕ) (right : Syntax) → Keeps (assign names x right)
-keeps_assign names x (bracket (called f) o most last c) =
-    keeps_if (is_fetch names (name_of f)) (give (fetched names most last) >>= fetch_into x)
-    (if is_remote_call names (name_of f) then (give (remote_call names most last) >>= call_into x) else set x (call_of names (name_of f) most last))
-    (keeps_fetched x (fetched names most last))
-    (keeps_if (is_remote_call names (name_of f)) (give (remote_call names most last) >>= call_into x) (set x (call_of names (name_of f) most last))
-    (keeps_then (give (remote_call names most last)) (call_into x) (keeps_give (remote_call names most last)) (keeps_call x))
-    (keeps_sum x (call_of names (name_of f) most last)))
-keeps_assign names x right = keeps_sum x (sum_of names right)
+keeps_assign : (scope : Scope) (x : List ℕ) (right : Syntax) → Keeps (assign scope x right)
+keeps_assign scope x (bracket (called f) o most last c) =
+    keeps_if (is_fetch scope.names (name_of f)) (give (fetched scope most last) >>= fetch_into x)
+    (if is_remote_call scope.names (name_of f) then (give (remote_call scope most last) >>= call_into x) else set x (call_of scope (name_of f) most last))
+    (keeps_fetched x (fetched scope most last))
+    (keeps_if (is_remote_call scope.names (name_of f)) (give (remote_call scope most last) >>= call_into x) (set x (call_of scope (name_of f) most last))
+    (keeps_then (give (remote_call scope most last)) (call_into x) (keeps_give (remote_call scope most last)) (keeps_call x))
+    (keeps_value_in x (call_of scope (name_of f) most last)))
+keeps_assign scope x right = keeps_value_in x (expression_of scope right)
 
-keeps_stmt : (texts names : Lists) (x : script.Stmt) → Keeps (stmt_line texts names x)
-keeps_stmt texts names (ended bare x) = keeps_line texts names x
-keeps_stmt texts names (ended (assigned n t) x) =
-    keeps_then (give (name_in names n.kind)) (λ name. assign names name x) (keeps_give (name_in names n.kind)) (λ name. keeps_assign names name x)
-keeps_stmt texts names x = keeps_refuse
+keeps_stmt : (scope : Scope) (x : script.Stmt) → Keeps (stmt_line scope x)
+keeps_stmt scope (ended bare x) = keeps_line scope x
+keeps_stmt scope (ended (assigned n t) x) =
+    keeps_then (give (name_in scope.names n.kind)) (λ name. assign scope name x) (keeps_give (name_in scope.names n.kind)) (λ name. keeps_assign scope name x)
+keeps_stmt scope x = keeps_refuse
 
-keeps_place : (texts names : Lists) (m : Place) → Keeps (line_at texts names m)
-keeps_place texts names empty = keeps_pure tt
-keeps_place texts names (stmt x) = keeps_stmt texts names x
+keeps_place : (scope : Scope) (m : Place) → Keeps (line_at scope m)
+keeps_place scope empty = keeps_pure tt
+keeps_place scope (stmt x) = keeps_stmt scope x
 
-keeps_lines : (texts names : Lists) (ls : Lines) → Keeps (lines_of texts names ls)
-keeps_lines texts names no_lines = keeps_pure tt
-keeps_lines texts names (line ls m t) = keeps_then (lines_of texts names ls) (λ _. line_at texts names m) (keeps_lines texts names ls) (λ _. keeps_place texts names m)
+keeps_lines : (scope : Scope) (ls : Lines) → Keeps (lines_of scope ls)
+keeps_lines scope no_lines = keeps_pure tt
+keeps_lines scope (line ls m t) = keeps_then (lines_of scope ls) (λ _. line_at scope m) (keeps_lines scope ls) (λ _. keeps_place scope m)
 
-keeps_block : (texts names : Lists) (b : script.Block) → Keeps (block_of texts names b)
-keeps_block texts names (block ls m) = keeps_then (lines_of texts names ls) (λ _. line_at texts names m) (keeps_lines texts names ls) (λ _. keeps_place texts names m)
+keeps_block : (scope : Scope) (b : script.Block) → Keeps (block_of scope b)
+keeps_block scope (block ls m) = keeps_then (lines_of scope ls) (λ _. line_at scope m) (keeps_lines scope ls) (λ _. keeps_place scope m)
 
 -- ---- programs
 
@@ -201,4 +200,4 @@ in_program (Some ran) program hp h =
     (ran.1.bodies, ap (λ p. called_by (stmts_of p)) (sym (inner (program_of ran.1.stmts) program h)) ∙ ap called_by (made_of ran.1.stmts) ∙ hp ran.0 ran.1 refl)
 
 pub numbered : AreNumberedInOrder
-numbered s program h = in_program (block_of s.texts s.names s.block nothing_written) program (keeps_block s.texts s.names s.block nothing_written refl) h
+numbered s program h = in_program (block_of (scope_of s) s.block nothing_written) program (keeps_block (scope_of s) s.block nothing_written refl) h

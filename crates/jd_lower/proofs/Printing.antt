@@ -9,17 +9,21 @@ use Rattle.jd_value.specs.declared.tree.Stmt as a-stmt
 use Rattle.jd_value.specs.declared.tree.Stmt.TheVariants as statement
 use Rattle.jd_grammar.specs.declared.token.Word.TheVariants as word
 use Rattle.jd_grammar.specs.Kinds.{is_comma, is_word}
-use Rattle.jd_grammar.specs.Grammar.{Syntax, leaf, bracket, called, Items, none, more, Maybe, nothing, just, name_of}
+use Rattle.jd_grammar.specs.Grammar.{Syntax, bracket, called, Items, none, more, Maybe, nothing, just, name_of}
 use Rattle.jd_grammar.specs.Script.{Block, block, Lines, no_lines, line, Place, empty, stmt, ended, bare}
 use Rattle.jd_lower.specs.declared.draft.Draft.{Draft}
 use Rattle.jd_lower.specs.Steps.{Step, and_then, ◌>>=◌, pure, refuse, give, nothing_written}
-use Rattle.jd_lower.specs.Names.{is_fetch}
-use Rattle.jd_lower.specs.Sums.{call_of, sum_of}
+use Rattle.std.specs.Str.{bytes_eq}
+use Rattle.std.proofs.lemmas.Slice.Eq.{bytes_eq-Decides}
+use Rattle.jd_grammar.specs.declared.token.Kind.{Kind}
+use Rattle.jd_grammar.specs.declared.token.Kind.TheVariants as kind
+use Rattle.jd_lower.specs.declared.scope.Scope.{Scope}
+use Rattle.jd_lower.specs.Scopes.{is_bound, scope_of}
+use Rattle.jd_lower.specs.Names.{name_text, fetch_text, is_fetch}
+use Rattle.jd_lower.specs.Builtins.{builtin_named, function, is_of_int, call}
+use Rattle.jd_lower.specs.Expressions.{cons, followed_by, expression_of, expressions_of, last_of, all_of, call_of}
 use Rattle.jd_lower.specs.Lowering.{fetched, fetch_value, argument, arguments, last_argument, all_arguments, print, print_line, line_at, lines_of, block_of, program_written}
-use Rattle.jd_lower.specs.Laws.{quiet_value, cons, quiet_values, quiet_last, quiet_call, with_line, with_place, quiet_lines, quiet_block, numbered, prints, PrintLinesInOrder}
-
-abbrev Lists : Type 0
-Lists = List (List ℕ)
+use Rattle.jd_lower.specs.Laws.{quiet_call, with_line, with_place, quiet_lines, quiet_block, numbered, prints, PrintLinesInOrder}
 
 -- equal values, where there are values
 inner : {A : Type 0} (x y : A) → Some x ≡ Some y → x ≡ y
@@ -30,63 +34,66 @@ given o a s h = ap (λ p. give p s) h
 
 -- ---- arguments
 
-by_fetch : (b : Bool) (p : Step Expr) (o : Option Expr) (y : Expr) (s : Draft) → (if b then None else o) ≡ Some y → (if b then p else give o) s ≡ Some (y, s)
-by_fetch true p o y s h = absurd (none-some y h)
-by_fetch false p o y s h = given o y s h
+-- `fetch` is the name of no builtin function
+fetch_is_no_builtin : builtin_named fetch_text ≡ None
+unfolding builtin_named fetch_text
+fetch_is_no_builtin = refl
 
-one_argument : (texts names : Lists) (x : Syntax) (y : Expr) (s : Draft) → quiet_value texts names x ≡ Some y → argument texts names x s ≡ Some (y, s)
-one_argument texts names (leaf t) y s h = given _ y s h
-one_argument texts names (bracket (called f) o most last c) y s h =
-    by_fetch (is_fetch names (name_of f)) (fetch_value (fetched names most last)) (call_of names (name_of f) most last) y s h
-one_argument texts names x y s h = given (sum_of names x) y s h
+spelled_so : (b : Bool) (name : List ℕ) → bytes_eq name fetch_text ≡ true → (if b then None else builtin_named name) ≡ None
+spelled_so true name h = refl
+spelled_so false name h = ap builtin_named ((bytes_eq-Decides name fetch_text).0 h) ∙ fetch_is_no_builtin
 
--- Values in front of others, and the step that gives those in front.
-record AreSplit (others : Option (List Expr)) (ys : List Expr) (ran : Option (List Expr × Draft)) (s : Draft) : Type 0 where
-  pub front : List Expr
-  pub rest : List Expr
-  pub last : others ≡ Some rest
-  pub whole : ys ≡ front ++ rest
-  pub gives : ran ≡ Some (front, s)
+fetch_calls_none : (scope : Scope) (f : Kind) → is_fetch scope.names f ≡ true → function scope f ≡ None
+fetch_calls_none scope (kind.Name n) h = spelled_so (is_bound scope.bound n) (name_text scope.names n) h
+fetch_calls_none scope f h = refl
 
-one_more : (others : Option (List Expr)) (b : Bool) (v : Option Expr) (p : Step Expr) (vs : Option (List Expr)) (q : Step (List Expr)) (s : Draft) (ys : List Expr) →
-    ((y : Expr) → v ≡ Some y → p s ≡ Some (y, s)) → ((zs : List Expr) → vs ≡ Some zs → AreSplit others zs (q s) s) →
-    (if b then cons v vs else None) ≡ Some ys → AreSplit others ys ((if b then (p >>= (λ y. q >>= (λ zs. pure (y ∷ zs)))) else refuse) s) s
-one_more others true (Some y) p (Some zs) q s ys hp hq h =
-    let r : AreSplit others zs (q s) s = hq zs refl in
-    record {
-      front = y ∷ r.front;
-      rest = r.rest;
-      last = r.last;
-      whole = sym (inner (y ∷ zs) ys h) ∙ ap (λ xs. y ∷ xs) r.whole;
-      gives = ap (λ ran. and_then ran (λ x. q >>= (λ xs. pure (x ∷ xs)))) (hp y refl) ∙ ap (λ ran. and_then ran (λ xs. pure (y ∷ xs))) r.gives;
-    }
-one_more others true None p vs q s ys hp hq h = absurd (none-some ys h)
-one_more others true (Some y) p None q s ys hp hq h = absurd (none-some ys h)
-one_more others false v p vs q s ys hp hq h = absurd (none-some ys h)
+by_fetch : (b : Bool) (p : Step Expr) (o : Option Expr) (y : Expr) (s : Draft) → (b ≡ true → o ≡ None) → o ≡ Some y → (if b then p else give o) s ≡ Some (y, s)
+by_fetch true p o y s hn h = absurd (none-some y (sym (hn refl) ∙ h))
+by_fetch false p o y s hn h = given o y s h
 
-most_arguments : (texts names : Lists) (xs : Items) (others : Option (List Expr)) (ys : List Expr) (s : Draft) →
-    quiet_values texts names xs others ≡ Some ys → AreSplit others ys (arguments texts names xs s) s
-most_arguments texts names none others ys s h = record { front = []; rest = ys; last = h; whole = refl; gives = refl }
-most_arguments texts names (more x t xs) others ys s h =
-    one_more others (is_comma t.kind) (quiet_value texts names x) (argument texts names x) (quiet_values texts names xs others) (arguments texts names xs) s ys
-    (λ y. one_argument texts names x y s) (λ zs. most_arguments texts names xs others zs s) h
+one_argument : (scope : Scope) (x : Syntax) (y : Expr) (s : Draft) → expression_of scope x ≡ Some y → argument scope x s ≡ Some (y, s)
+one_argument scope (bracket (called f) o most last c) y s h =
+    by_fetch (is_fetch scope.names (name_of f)) (fetch_value (fetched scope most last)) (call_of scope (name_of f) most last) y s
+    (λ b. ap (λ g. call g (is_of_int scope most last) (all_of scope most last)) (fetch_calls_none scope (name_of f) b)) h
+one_argument scope x y s h = given (expression_of scope x) y s h
+
+one_more : (b : Bool) (v : Option Expr) (p : Step Expr) (vs : Option (List Expr)) (q : Step (List Expr)) (s : Draft) (ys : List Expr) →
+    ((y : Expr) → v ≡ Some y → p s ≡ Some (y, s)) → ((zs : List Expr) → vs ≡ Some zs → q s ≡ Some (zs, s)) →
+    (if b then cons v vs else None) ≡ Some ys → (if b then (p >>= (λ y. q >>= (λ zs. pure (y ∷ zs)))) else refuse) s ≡ Some (ys, s)
+one_more true (Some y) p (Some zs) q s ys hp hq h =
+    ap (λ ran. and_then ran (λ x. q >>= (λ xs. pure (x ∷ xs)))) (hp y refl) ∙ ap (λ ran. and_then ran (λ xs. pure (y ∷ xs))) (hq zs refl)
+    ∙ ap (λ xs. Some (xs, s)) (inner (y ∷ zs) ys h)
+one_more true None p vs q s ys hp hq h = absurd (none-some ys h)
+one_more true (Some y) p None q s ys hp hq h = absurd (none-some ys h)
+one_more false v p vs q s ys hp hq h = absurd (none-some ys h)
+
+most_arguments : (scope : Scope) (xs : Items) (ys : List Expr) (s : Draft) → expressions_of scope xs ≡ Some ys → arguments scope xs s ≡ Some (ys, s)
+most_arguments scope none ys s h = ap (λ xs. Some (xs, s)) (inner [] ys h)
+most_arguments scope (more x t xs) ys s h =
+    one_more (is_comma t.kind) (expression_of scope x) (argument scope x) (expressions_of scope xs) (arguments scope xs) s ys (λ y. one_argument scope x y s) (λ zs. most_arguments scope xs zs s) h
 
 only_argument : (v : Option Expr) (p : Step Expr) (s : Draft) (ys : List Expr) → ((y : Expr) → v ≡ Some y → p s ≡ Some (y, s)) →
     cons v (Some []) ≡ Some ys → and_then (p s) (λ y. pure (y ∷ [])) ≡ Some (ys, s)
 only_argument None p s ys hp h = absurd (none-some ys h)
 only_argument (Some y) p s ys hp h = ap (λ ran. and_then ran (λ x. pure (x ∷ []))) (hp y refl) ∙ ap (λ xs. Some (xs, s)) (inner (y ∷ []) ys h)
 
-the_last : (texts names : Lists) (last : Maybe) (ys : List Expr) (s : Draft) → quiet_last texts names last ≡ Some ys → last_argument texts names last s ≡ Some (ys, s)
-the_last texts names nothing ys s h = ap (λ xs. Some (xs, s)) (inner [] ys h)
-the_last texts names (just x) ys s h = only_argument (quiet_value texts names x) (argument texts names x) s ys (λ y. one_argument texts names x y s) h
+the_last : (scope : Scope) (last : Maybe) (ys : List Expr) (s : Draft) → last_of scope last ≡ Some ys → last_argument scope last s ≡ Some (ys, s)
+the_last scope nothing ys s h = ap (λ xs. Some (xs, s)) (inner [] ys h)
+the_last scope (just x) ys s h = only_argument (expression_of scope x) (argument scope x) s ys (λ y. one_argument scope x y s) h
 
-whole_call : (texts names : Lists) (most : Items) (last : Maybe) (ys : List Expr) (s : Draft) →
-    quiet_values texts names most (quiet_last texts names last) ≡ Some ys → all_arguments texts names most last s ≡ Some (ys, s)
-whole_call texts names most last ys s h =
-    let r : AreSplit (quiet_last texts names last) ys (arguments texts names most s) s = most_arguments texts names most (quiet_last texts names last) ys s h in
-    ap (λ ran. and_then ran (λ xs. last_argument texts names last >>= (λ zs. pure (xs ++ zs)))) r.gives
-    ∙ ap (λ ran. and_then ran (λ zs. pure (r.front ++ zs))) (the_last texts names last r.rest s r.last)
-    ∙ ap (λ xs. Some (xs, s)) (sym r.whole)
+both_parts : (v w : Option (List Expr)) (p q : Step (List Expr)) (s : Draft) (ys : List Expr) →
+    ((xs : List Expr) → v ≡ Some xs → p s ≡ Some (xs, s)) → ((zs : List Expr) → w ≡ Some zs → q s ≡ Some (zs, s)) →
+    followed_by v w ≡ Some ys → and_then (p s) (λ xs. q >>= (λ zs. pure (xs ++ zs))) ≡ Some (ys, s)
+both_parts None w p q s ys hp hq h = absurd (none-some ys h)
+both_parts (Some xs) None p q s ys hp hq h = absurd (none-some ys h)
+both_parts (Some xs) (Some zs) p q s ys hp hq h =
+    ap (λ ran. and_then ran (λ us. q >>= (λ vs. pure (us ++ vs)))) (hp xs refl) ∙ ap (λ ran. and_then ran (λ vs. pure (xs ++ vs))) (hq zs refl)
+    ∙ ap (λ us. Some (us, s)) (inner (xs ++ zs) ys h)
+
+whole_call : (scope : Scope) (most : Items) (last : Maybe) (ys : List Expr) (s : Draft) → all_of scope most last ≡ Some ys → all_arguments scope most last s ≡ Some (ys, s)
+whole_call scope most last ys s h =
+    both_parts (expressions_of scope most) (last_of scope last) (arguments scope most) (last_argument scope last) s ys
+    (λ xs. most_arguments scope most xs s) (λ zs. the_last scope last zs s) h
 
 -- ---- calls
 
@@ -95,11 +102,11 @@ by_println : (b : Bool) (v : Option (List Expr)) (p : Step (List Expr)) (s : Dra
 by_println true v p s ys hp h = ap (λ ran. and_then ran print) (hp ys h)
 by_println false v p s ys hp h = absurd (none-some ys h)
 
-one_call : (texts names : Lists) (x : Syntax) (ys : List Expr) (s : Draft) → quiet_call texts names x ≡ Some ys → print_line texts names x s ≡ print ys s
-one_call texts names (bracket (called f) o most last c) ys s h =
-    by_println (is_word word.Println (name_of f)) (quiet_values texts names most (quiet_last texts names last)) (all_arguments texts names most last) s ys
-    (λ zs. whole_call texts names most last zs s) h
-one_call texts names x ys s h = absurd (none-some ys h)
+one_call : (scope : Scope) (x : Syntax) (ys : List Expr) (s : Draft) → quiet_call scope x ≡ Some ys → print_line scope x s ≡ print ys s
+one_call scope (bracket (called f) o most last c) ys s h =
+    by_println (is_word word.Println (name_of f)) (all_of scope most last) (all_arguments scope most last) s ys
+    (λ zs. whole_call scope most last zs s) h
+one_call scope x ys s h = absurd (none-some ys h)
 
 -- ---- lines
 
@@ -137,19 +144,19 @@ one_line (Some before) ran None p after hr hp h = absurd (none-some after h)
 one_line (Some before) ran (Some ys) p after hr hp h =
     ap (λ r. and_then r (λ _. p)) (hr before refl) ∙ hp ys (printed before) refl ∙ printed_more before ys ∙ ap (λ ls. Some (tt, printed ls)) (inner (before ++ ys ∷ []) after h)
 
-one_place : (texts names : Lists) (lines : Option (List (List Expr))) (ran : Option (Unit {0} × Draft)) (m : Place) (after : List (List Expr)) →
+one_place : (scope : Scope) (lines : Option (List (List Expr))) (ran : Option (Unit {0} × Draft)) (m : Place) (after : List (List Expr)) →
     ((before : List (List Expr)) → lines ≡ Some before → ran ≡ Some (tt, printed before)) →
-    with_place texts names lines m ≡ Some after → and_then ran (λ _. line_at texts names m) ≡ Some (tt, printed after)
-one_place texts names lines ran empty after hr h = ap (λ r. and_then r (λ _. pure tt)) (hr after h)
-one_place texts names lines ran (stmt (ended bare x)) after hr h = one_line lines ran (quiet_call texts names x) (print_line texts names x) after hr (one_call texts names x) h
-one_place texts names lines ran (stmt x) after hr h = absurd (none-some after h)
+    with_place scope lines m ≡ Some after → and_then ran (λ _. line_at scope m) ≡ Some (tt, printed after)
+one_place scope lines ran empty after hr h = ap (λ r. and_then r (λ _. pure tt)) (hr after h)
+one_place scope lines ran (stmt (ended bare x)) after hr h = one_line lines ran (quiet_call scope x) (print_line scope x) after hr (one_call scope x) h
+one_place scope lines ran (stmt x) after hr h = absurd (none-some after h)
 
-most_lines : (texts names : Lists) (ls : Lines) (after : List (List Expr)) → quiet_lines texts names ls ≡ Some after → lines_of texts names ls nothing_written ≡ Some (tt, printed after)
-most_lines texts names no_lines after h = ap (λ ls. Some (tt, printed ls)) (inner [] after h)
-most_lines texts names (line ls m t) after h = one_place texts names (quiet_lines texts names ls) (lines_of texts names ls nothing_written) m after (most_lines texts names ls) h
+most_lines : (scope : Scope) (ls : Lines) (after : List (List Expr)) → quiet_lines scope ls ≡ Some after → lines_of scope ls nothing_written ≡ Some (tt, printed after)
+most_lines scope no_lines after h = ap (λ ls. Some (tt, printed ls)) (inner [] after h)
+most_lines scope (line ls m t) after h = one_place scope (quiet_lines scope ls) (lines_of scope ls nothing_written) m after (most_lines scope ls) h
 
-all_lines : (texts names : Lists) (b : Block) (after : List (List Expr)) → quiet_block texts names b ≡ Some after → block_of texts names b nothing_written ≡ Some (tt, printed after)
-all_lines texts names (block ls m) after h = one_place texts names (quiet_lines texts names ls) (lines_of texts names ls nothing_written) m after (most_lines texts names ls) h
+all_lines : (scope : Scope) (b : Block) (after : List (List Expr)) → quiet_block scope b ≡ Some after → block_of scope b nothing_written ≡ Some (tt, printed after)
+all_lines scope (block ls m) after h = one_place scope (quiet_lines scope ls) (lines_of scope ls nothing_written) m after (most_lines scope ls) h
 
 pub in_order : PrintLinesInOrder
-in_order script lines h = ap program_written (all_lines script.texts script.names script.block lines h)
+in_order script lines h = ap program_written (all_lines (scope_of script) script.block lines h)

@@ -7,6 +7,7 @@ use Rattle.jd_value.specs.declared.tree.Stmt as a-stmt
 use Rattle.jd_value.specs.declared.tree.Stmt.{out-Stmt}
 use Rattle.jd_value.specs.declared.tree.Stmt.TheVariants as statement
 use Rattle.jd_value.specs.declared.tree.Stmt.TheOpen.{Stmt-F}
+use Rattle.jd_value.specs.declared.tree.Arm.{Arm}
 use Rattle.jd_value.specs.declared.tree.Block as a-block
 use Rattle.jd_value.specs.declared.tree.Block.{out-Block}
 use Rattle.jd_value.specs.declared.tree.Body.{Body, out-Body}
@@ -15,15 +16,17 @@ use Rattle.jd_grammar.specs.declared.token.Word.{Word}
 use Rattle.jd_grammar.specs.declared.token.Word.TheVariants as word
 use Rattle.jd_grammar.specs.declared.token.Name.TheVariants as name
 use Rattle.jd_grammar.specs.declared.token.Kind.TheVariants as kind
-use Rattle.jd_grammar.specs.Kinds.{is_comma, is_word}
-use Rattle.jd_grammar.specs.Grammar.{Syntax, leaf, bracket, called, Items, none, more, Maybe, nothing, just, name_of}
+use Rattle.jd_grammar.specs.Kinds.{is_word}
+use Rattle.jd_grammar.specs.Grammar.{Syntax, bracket, called, name_of}
 use Rattle.jd_grammar.specs.Script.{Block, block, Lines, no_lines, line, Place, empty, stmt, ended, bare}
 use Rattle.jd_syntax.specs.Spelling.{Script}
 use Rattle.jd_lexer.specs.declared.words.TheConstants.{WORDS}
 use Rattle.jd_lexer.specs.Words.{kind_among}
-use Rattle.jd_lower.specs.Names.{word_text, is_fetch}
-use Rattle.jd_lower.specs.Sums.{call_of, sum_of}
-use Rattle.jd_lower.specs.Lowering.{text_or_operand, program_of, lowered}
+use Rattle.jd_lower.specs.declared.scope.Scope.{Scope}
+use Rattle.jd_lower.specs.Names.{word_text}
+use Rattle.jd_lower.specs.Scopes.{scope_of}
+use Rattle.jd_lower.specs.Expressions.{all_of}
+use Rattle.jd_lower.specs.Lowering.{program_of, lowered}
 
 -- ---- names
 
@@ -33,33 +36,11 @@ AreSpelledAsRead = (w : Word) → kind_among (map (λ row. (row.0.now, row.1)) W
 
 -- ---- what a script of `println` alone prints
 
--- a text or a sum, which waits for nothing
-abbrev pub quiet_value : List (List ℕ) → List (List ℕ) → Syntax → Option Expr
-quiet_value texts names (leaf t) = text_or_operand texts names t.kind
-quiet_value texts names (bracket (called f) o most last c) =
-    if is_fetch names (name_of f) then None else call_of names (name_of f) most last
-quiet_value texts names x = sum_of names x
-
-abbrev pub cons : Option Expr → Option (List Expr) → Option (List Expr)
-cons None xs = None
-cons (Some x) None = None
-cons (Some x) (Some xs) = Some (x ∷ xs)
-
--- the values before a comma each, in front of others
-abbrev pub quiet_values : List (List ℕ) → List (List ℕ) → Items → Option (List Expr) → Option (List Expr)
-quiet_values texts names none others = others
-quiet_values texts names (more x t xs) others =
-    if is_comma t.kind then cons (quiet_value texts names x) (quiet_values texts names xs others) else None
-
-abbrev pub quiet_last : List (List ℕ) → List (List ℕ) → Maybe → Option (List Expr)
-quiet_last texts names nothing = Some []
-quiet_last texts names (just x) = cons (quiet_value texts names x) (Some [])
-
 -- what a call of `println` prints
-abbrev pub quiet_call : List (List ℕ) → List (List ℕ) → Syntax → Option (List Expr)
-quiet_call texts names (bracket (called f) o most last c) =
-    if is_word word.Println (name_of f) then quiet_values texts names most (quiet_last texts names last) else None
-quiet_call texts names x = None
+abbrev pub quiet_call : Scope → Syntax → Option (List Expr)
+quiet_call scope (bracket (called f) o most last c) =
+    if is_word word.Println (name_of f) then all_of scope most last else None
+quiet_call scope x = None
 
 -- lines and one more, which prints these values
 abbrev pub with_line : Option (List (List Expr)) → Option (List Expr) → Option (List (List Expr))
@@ -67,21 +48,21 @@ with_line None x = None
 with_line (Some xs) None = None
 with_line (Some xs) (Some x) = Some (xs ++ x ∷ [])
 
-abbrev pub with_place : List (List ℕ) → List (List ℕ) → Option (List (List Expr)) → Place → Option (List (List Expr))
-with_place texts names xs empty = xs
-with_place texts names xs (stmt (ended bare x)) = with_line xs (quiet_call texts names x)
-with_place texts names xs (stmt x) = None
+abbrev pub with_place : Scope → Option (List (List Expr)) → Place → Option (List (List Expr))
+with_place scope xs empty = xs
+with_place scope xs (stmt (ended bare x)) = with_line xs (quiet_call scope x)
+with_place scope xs (stmt x) = None
 
-abbrev pub quiet_lines : List (List ℕ) → List (List ℕ) → Lines → Option (List (List Expr))
-quiet_lines texts names no_lines = Some []
-quiet_lines texts names (line ls m t) = with_place texts names (quiet_lines texts names ls) m
+abbrev pub quiet_lines : Scope → Lines → Option (List (List Expr))
+quiet_lines scope no_lines = Some []
+quiet_lines scope (line ls m t) = with_place scope (quiet_lines scope ls) m
 
-abbrev pub quiet_block : List (List ℕ) → List (List ℕ) → Block → Option (List (List Expr))
-quiet_block texts names (block ls m) = with_place texts names (quiet_lines texts names ls) m
+abbrev pub quiet_block : Scope → Block → Option (List (List Expr))
+quiet_block scope (block ls m) = with_place scope (quiet_lines scope ls) m
 
--- What the lines of a script print, in their order, where each line is empty or `println` of texts and sums.
+-- What the lines of a script print, in their order, where each line is empty or `println` of expressions, which wait for nothing.
 abbrev pub printed_lines : Script → Option (List (List Expr))
-printed_lines script = quiet_block script.texts script.names script.block
+printed_lines script = quiet_block (scope_of script) script.block
 
 -- ---- their statements
 
@@ -101,7 +82,7 @@ PrintLinesInOrder = (script : Script) (lines : List (List Expr)) → printed_lin
 -- ---- the numbers of bodies
 
 -- the number of the body that a statement calls, if it calls one
-abbrev pub called_at : Stmt-F a-stmt.Stmt a-block.Block Body → List ℕ
+abbrev pub called_at : Stmt-F a-stmt.Stmt Arm a-block.Block Body → List ℕ
 called_at (Stmt-F.Effect name operation (Some body) args) = (out-Body body).number ∷ []
 called_at _ = []
 

@@ -1,5 +1,10 @@
 pub mod Steps
 pub mod Names
-pub mod Sums
+pub mod Scopes
+pub mod Operators
+pub mod Literals
+pub mod Builtins
+pub mod Expressions
+pub mod Rows
 pub mod Lowering
 pub mod Laws

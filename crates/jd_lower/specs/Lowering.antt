@@ -1,7 +1,7 @@
 -- The program of a script, where the program can run it: lines that print, assign, call remotely or fetch. Any other
 -- script has none. The effects of a statement run first, from left to right; each gets a variable of its own, `%1`, `%2`
 -- and so on in its body, unless it is the whole right side of an assignment.
-use Rattle.std.specs.Prelude.{ℕ, ◌&&◌, if◌then◌else◌, List, [], ◌∷◌, ◌++◌, Option, Some, None, slice_get}
+use Rattle.std.specs.Prelude.{ℕ, ◌&&◌, if◌then◌else◌, List, [], ◌∷◌, ◌++◌, Option, Some, None}
 use Rattle.jd_value.specs.declared.expr.Expr.{Expr}
 use Rattle.jd_value.specs.declared.expr.Expr.TheVariants as e
 use Rattle.jd_value.specs.declared.operation.Operation.TheVariants as operation
@@ -12,18 +12,20 @@ use Rattle.jd_value.specs.declared.tree.Block.{roll-Block}
 use Rattle.jd_value.specs.declared.tree.Program.{Program}
 use Rattle.jd_grammar.specs.declared.token.Token.{Token}
 use Rattle.jd_grammar.specs.declared.token.Kind.{Kind}
-use Rattle.jd_grammar.specs.declared.token.Kind.TheVariants as kind
 use Rattle.jd_grammar.specs.declared.token.Word.TheVariants as word
 use Rattle.jd_grammar.specs.Kinds.{is_comma, is_word}
-use Rattle.jd_grammar.specs.Grammar.{Syntax, leaf, ending, bracket, lambda, called, Items, none, more, Maybe, nothing, just, name_of}
+use Rattle.jd_grammar.specs.Grammar.{Syntax, ending, bracket, lambda, called, Items, none, more, Maybe, nothing, just, name_of}
 use Rattle.jd_grammar.specs.Script.{Block, block, Lines, no_lines, line, Place, empty, stmt, Stmt, ended, bare, assigned}
 use Rattle.jd_syntax.specs.Spelling.{Script}
 use Rattle.jd_lower.specs.declared.draft.Draft.{Draft}
 use Rattle.jd_lower.specs.declared.calls.Function.{Function}
 use Rattle.jd_lower.specs.declared.calls.RemoteCall.{RemoteCall}
 use Rattle.jd_lower.specs.Steps.{Step, and_then, ◌>>=◌, ◌>>◌, pure, refuse, give, variable, body_number, write, nothing_written}
-use Rattle.jd_lower.specs.Names.{text, name_in, is_fetch, is_remote_call}
-use Rattle.jd_lower.specs.Sums.{operand, is_none, call_of, sum_of}
+use Rattle.jd_lower.specs.Names.{name_in, is_fetch, is_remote_call}
+use Rattle.jd_lower.specs.declared.scope.Scope.{Scope}
+use Rattle.jd_lower.specs.Scopes.{scope_of}
+use Rattle.jd_lower.specs.Builtins.{is_none}
+use Rattle.jd_lower.specs.Expressions.{call_of, expression_of}
 
 -- ---- calls
 
@@ -32,10 +34,10 @@ with_body None x = None
 with_body (Some p) None = None
 with_body (Some p) (Some x) = Some (record { parameter = p; body = x })
 
--- `p -> s`: a function of one value
-abbrev pub function_of : List (List ℕ) → Syntax → Option Function
-function_of names (ending (lambda p t) x) = with_body (name_in names (name_of p)) (sum_of names x)
-function_of names _ = None
+-- `p -> e`: a function of one value
+abbrev pub function_of : Scope → Syntax → Option Function
+function_of scope (ending (lambda p t) x) = with_body (name_in scope.names (name_of p)) (expression_of scope x)
+function_of scope _ = None
 
 abbrev pub with_parts : Option Function → Option Expr → Option Expr → Option RemoteCall
 with_parts None p x = None
@@ -43,16 +45,16 @@ with_parts (Some f) None x = None
 with_parts (Some f) (Some p) None = None
 with_parts (Some f) (Some p) (Some x) = Some (record { function = f; process = p; argument = x })
 
--- what stands in the parentheses of `remotecall(p -> s, e, a)`
-abbrev pub remote_call : List (List ℕ) → Items → Maybe → Option RemoteCall
-remote_call names (more f t (more p u none)) (just a) =
-    if is_comma t.kind && is_comma u.kind then with_parts (function_of names f) (sum_of names p) (sum_of names a) else None
-remote_call names most last = None
+-- what stands in the parentheses of `remotecall(p -> e, w, a)`
+abbrev pub remote_call : Scope → Items → Maybe → Option RemoteCall
+remote_call scope (more f t (more p u none)) (just a) =
+    if is_comma t.kind && is_comma u.kind then with_parts (function_of scope f) (expression_of scope p) (expression_of scope a) else None
+remote_call scope most last = None
 
 -- what stands in the parentheses of `fetch(x)`: a variable
-abbrev pub fetched : List (List ℕ) → Items → Maybe → Option (List ℕ)
-fetched names most (just x) = if is_none most then name_in names (name_of x) else None
-fetched names most nothing = None
+abbrev pub fetched : Scope → Items → Maybe → Option (List ℕ)
+fetched scope most (just x) = if is_none most then name_in scope.names (name_of x) else None
+fetched scope most nothing = None
 
 -- the body of a function of one value
 abbrev pub body_of : ℕ → Function → Body
@@ -73,37 +75,32 @@ fetch_value x = do
   fetch_into answer name
   pure (e.Name answer)
 
-abbrev pub text_or_operand : List (List ℕ) → List (List ℕ) → Kind → Option Expr
-text_or_operand texts names (kind.Text n) = Some (e.Text (text (slice_get texts n)))
-text_or_operand texts names k = operand names k
+-- a call as an argument: `fetch(x)`, or a builtin function
+abbrev pub call_value : Scope → Kind → Option (List ℕ) → Option Expr → Step Expr
+call_value scope f x value = if is_fetch scope.names f then fetch_value x else give value
 
--- a call as an argument: `fetch(x)`, or a sum
-abbrev pub call_value : List (List ℕ) → Kind → Option (List ℕ) → Option Expr → Step Expr
-call_value names f x sum = if is_fetch names f then fetch_value x else give sum
-
--- an argument of `println`: a text, a sum, or `fetch(x)`
-abbrev pub argument : List (List ℕ) → List (List ℕ) → Syntax → Step Expr
-argument texts names (leaf t) = give (text_or_operand texts names t.kind)
-argument texts names (bracket (called f) o most last c) =
-    call_value names (name_of f) (fetched names most last) (call_of names (name_of f) most last)
-argument texts names x = give (sum_of names x)
+-- an argument of `println`: an expression, or `fetch(x)`
+abbrev pub argument : Scope → Syntax → Step Expr
+argument scope (bracket (called f) o most last c) =
+    call_value scope (name_of f) (fetched scope most last) (call_of scope (name_of f) most last)
+argument scope x = give (expression_of scope x)
 
 -- the arguments before a comma each
-abbrev pub arguments : List (List ℕ) → List (List ℕ) → Items → Step (List Expr)
-arguments texts names none = pure []
-arguments texts names (more x t others) =
-    if is_comma t.kind then (argument texts names x >>= (λ y. arguments texts names others >>= (λ ys. pure (y ∷ ys)))) else refuse
+abbrev pub arguments : Scope → Items → Step (List Expr)
+arguments scope none = pure []
+arguments scope (more x t others) =
+    if is_comma t.kind then (argument scope x >>= (λ y. arguments scope others >>= (λ ys. pure (y ∷ ys)))) else refuse
 
-abbrev pub last_argument : List (List ℕ) → List (List ℕ) → Maybe → Step (List Expr)
-last_argument texts names nothing = pure []
-last_argument texts names (just x) = do
-  y ← argument texts names x
+abbrev pub last_argument : Scope → Maybe → Step (List Expr)
+last_argument scope nothing = pure []
+last_argument scope (just x) = do
+  y ← argument scope x
   pure (y ∷ [])
 
-abbrev pub all_arguments : List (List ℕ) → List (List ℕ) → Items → Maybe → Step (List Expr)
-all_arguments texts names most last = do
-  xs ← arguments texts names most
-  ys ← last_argument texts names last
+abbrev pub all_arguments : Scope → Items → Maybe → Step (List Expr)
+all_arguments scope most last = do
+  xs ← arguments scope most
+  ys ← last_argument scope last
   pure (xs ++ ys)
 
 -- prints values, and has the answer as its own value
@@ -114,16 +111,16 @@ print values = do
   write (statement.Value (e.Name answer))
 
 -- a call of `println`
-abbrev pub print_line : List (List ℕ) → List (List ℕ) → Syntax → Step (Unit {0})
-print_line texts names (bracket (called f) o most last c) =
-    if is_word word.Println (name_of f) then (all_arguments texts names most last >>= print) else refuse
-print_line texts names x = refuse
+abbrev pub print_line : Scope → Syntax → Step (Unit {0})
+print_line scope (bracket (called f) o most last c) =
+    if is_word word.Println (name_of f) then (all_arguments scope most last >>= print) else refuse
+print_line scope x = refuse
 
 -- ---- assignments
 
 abbrev pub set : List ℕ → Option Expr → Step (Unit {0})
-set x sum = do
-  y ← give sum
+set x value = do
+  y ← give value
   write (statement.Set x y)
 
 -- the call's body gets the next number
@@ -132,41 +129,41 @@ call_into x call = do
   number ← body_number
   write (statement.Effect x operation.RemoteCall (Some (body_of number call.function)) (call.process ∷ call.argument ∷ []))
 
--- a call as a right side: `fetch(y)`, `remotecall(p -> s, e, a)`, or a sum
-abbrev pub assign_call : List (List ℕ) → List ℕ → Kind → Option (List ℕ) → Option RemoteCall → Option Expr → Step (Unit {0})
-assign_call names x f y call sum =
-    if is_fetch names f then (give y >>= fetch_into x) else (if is_remote_call names f then (give call >>= call_into x) else set x sum)
+-- a call as a right side: `fetch(y)`, `remotecall(p -> e, w, a)`, or a builtin function
+abbrev pub assign_call : Scope → List ℕ → Kind → Option (List ℕ) → Option RemoteCall → Option Expr → Step (Unit {0})
+assign_call scope x f y call value =
+    if is_fetch scope.names f then (give y >>= fetch_into x) else (if is_remote_call scope.names f then (give call >>= call_into x) else set x value)
 
 -- `x = e`
-abbrev pub assign : List (List ℕ) → List ℕ → Syntax → Step (Unit {0})
-assign names x (bracket (called f) o most last c) =
-    assign_call names x (name_of f) (fetched names most last) (remote_call names most last) (call_of names (name_of f) most last)
-assign names x e = set x (sum_of names e)
+abbrev pub assign : Scope → List ℕ → Syntax → Step (Unit {0})
+assign scope x (bracket (called f) o most last c) =
+    assign_call scope x (name_of f) (fetched scope most last) (remote_call scope most last) (call_of scope (name_of f) most last)
+assign scope x e = set x (expression_of scope e)
 
 -- ---- lines
 
 -- a call of `println`, or an assignment
-abbrev pub stmt_line : List (List ℕ) → List (List ℕ) → Stmt → Step (Unit {0})
-stmt_line texts names (ended bare x) = print_line texts names x
-stmt_line texts names (ended (assigned n t) x) = give (name_in names n.kind) >>= (λ name. assign names name x)
-stmt_line texts names _ = refuse
+abbrev pub stmt_line : Scope → Stmt → Step (Unit {0})
+stmt_line scope (ended bare x) = print_line scope x
+stmt_line scope (ended (assigned n t) x) = give (name_in scope.names n.kind) >>= (λ name. assign scope name x)
+stmt_line scope _ = refuse
 
 -- what stands at a place: nothing, or a statement
-abbrev pub line_at : List (List ℕ) → List (List ℕ) → Place → Step (Unit {0})
-line_at texts names empty = pure tt
-line_at texts names (stmt s) = stmt_line texts names s
+abbrev pub line_at : Scope → Place → Step (Unit {0})
+line_at scope empty = pure tt
+line_at scope (stmt s) = stmt_line scope s
 
-abbrev pub lines_of : List (List ℕ) → List (List ℕ) → Lines → Step (Unit {0})
-lines_of texts names no_lines = pure tt
-lines_of texts names (line ls m t) = lines_of texts names ls >> line_at texts names m
+abbrev pub lines_of : Scope → Lines → Step (Unit {0})
+lines_of scope no_lines = pure tt
+lines_of scope (line ls m t) = lines_of scope ls >> line_at scope m
 
 -- lines behind what was written
-abbrev pub lines_on : List (List ℕ) → List (List ℕ) → Option (Unit {0} × Draft) → List (Place × Token) → Option (Unit {0} × Draft)
-lines_on texts names ran [] = ran
-lines_on texts names ran (m ∷ ms) = lines_on texts names (and_then ran (λ _. line_at texts names m.0)) ms
+abbrev pub lines_on : Scope → Option (Unit {0} × Draft) → List (Place × Token) → Option (Unit {0} × Draft)
+lines_on scope ran [] = ran
+lines_on scope ran (m ∷ ms) = lines_on scope (and_then ran (λ _. line_at scope m.0)) ms
 
-abbrev pub block_of : List (List ℕ) → List (List ℕ) → Block → Step (Unit {0})
-block_of texts names (block ls m) = lines_of texts names ls >> line_at texts names m
+abbrev pub block_of : Scope → Block → Step (Unit {0})
+block_of scope (block ls m) = lines_of scope ls >> line_at scope m
 
 -- ---- programs
 
@@ -180,4 +177,4 @@ program_written (Some ran) = Some (program_of ran.1.stmts)
 
 -- the program of a script
 abbrev pub lowered : Script → Option Program
-lowered script = program_written (block_of script.texts script.names script.block nothing_written)
+lowered script = program_written (block_of (scope_of script) script.block nothing_written)

@@ -7,9 +7,11 @@ ghost use Rattle.jd_tree.specs.Plain.{plain, plain_item, plain_listing};
 ghost use Rattle.jd_lower.specs.Steps.{Lowers};
 ghost use Rattle.jd_lower.specs.Lowering.{function_of, fetched, remote_call, body_of};
 
+use crate::expressions::lower_expression;
 use crate::fault::LowerFault;
 use crate::names::name_in;
-use crate::sums::{is_comma, is_none, lower_sum, name_of};
+use crate::scope::Scope;
+use crate::shapes::{is_comma, is_none, name_of};
 use jd_tree::tree as syntax;
 use jd_tree::tree::{Item, Listing};
 use jd_value::{Block, Body, Expr, OutOfMemory, Shared, Stmt, Txt};
@@ -34,15 +36,15 @@ pub struct RemoteCall {
 /// The variable that a fetch waits for.
 pub fn lower_fetched(
     alloc: Global,
-    names: &[Shared<Txt>],
+    scope: &Scope,
     listing: &Listing,
 ) -> Result<Shared<Txt>, LowerFault>
-    ensures { let inside = plain_listing listing.now in Lowers (fetched names.now inside.most inside.last) result }
+    ensures { let inside = plain_listing listing.now in Lowers (fetched scope.now inside.most inside.last) result }
 {
     match &listing.last {
         Some(x) => {
             if is_none(listing.items.as_slice()) {
-                name_in(alloc, names, name_of(x))
+                name_in(alloc, scope.names.as_slice(), name_of(x))
             } else {
                 Err(LowerFault::NotBuilt)
             }
@@ -51,17 +53,13 @@ pub fn lower_fetched(
     }
 }
 
-fn lower_function(
-    alloc: Global,
-    names: &[Shared<Txt>],
-    x: &syntax::Expr,
-) -> Result<Function, LowerFault>
-    ensures { Lowers (function_of names.now (plain x.now)) result }
+fn lower_function(alloc: Global, scope: &Scope, x: &syntax::Expr) -> Result<Function, LowerFault>
+    ensures { Lowers (function_of scope.now (plain x.now)) result }
 {
     match x {
         syntax::Expr::Lambda(parameter, _, body) => {
-            let parameter = name_in(alloc, names, name_of(parameter.get()))?;
-            let body = lower_sum(alloc, names, body.get())?;
+            let parameter = name_in(alloc, scope.names.as_slice(), name_of(parameter.get()))?;
+            let body = lower_expression(alloc, scope, body.get())?;
             Ok(Function { parameter, body })
         }
         _ => Err(LowerFault::NotBuilt),
@@ -70,27 +68,27 @@ fn lower_function(
 
 fn lower_parts(
     alloc: Global,
-    names: &[Shared<Txt>],
+    scope: &Scope,
     function: &Item,
     process: &Item,
     argument: &syntax::Expr,
 ) -> Result<RemoteCall, LowerFault>
     ensures { let first = plain_item function.now in
         let second = plain_item process.now in
-        Lowers (remote_call names.now (more first.0 first.1 (more second.0 second.1 none)) (just (plain argument.now))) result }
+        Lowers (remote_call scope.now (more first.0 first.1 (more second.0 second.1 none)) (just (plain argument.now))) result }
 {
     if !is_comma(function.separator.kind) || !is_comma(process.separator.kind) {
         return Err(LowerFault::NotBuilt);
     }
-    let function = lower_function(alloc, names, &function.expr)?;
-    let process = match lower_sum(alloc, names, &process.expr) {
+    let function = lower_function(alloc, scope, &function.expr)?;
+    let process = match lower_expression(alloc, scope, &process.expr) {
         Ok(process) => process,
         Err(fault) => {
             drop(function);
             return Err(fault);
         }
     };
-    match lower_sum(alloc, names, argument) {
+    match lower_expression(alloc, scope, argument) {
         Ok(argument) => Ok(RemoteCall {
             function,
             process,
@@ -106,16 +104,16 @@ fn lower_parts(
 /// What a remote call runs, and where.
 pub fn lower_remote_call(
     alloc: Global,
-    names: &[Shared<Txt>],
+    scope: &Scope,
     listing: &Listing,
 ) -> Result<RemoteCall, LowerFault>
-    ensures { let inside = plain_listing listing.now in Lowers (remote_call names.now inside.most inside.last) result }
+    ensures { let inside = plain_listing listing.now in Lowers (remote_call scope.now inside.most inside.last) result }
 {
     let Some(argument) = &listing.last else {
         return Err(LowerFault::NotBuilt);
     };
     match listing.items.as_slice() {
-        [function, process] => lower_parts(alloc, names, function, process, argument),
+        [function, process] => lower_parts(alloc, scope, function, process, argument),
         _ => Err(LowerFault::NotBuilt),
     }
 }

@@ -6,7 +6,7 @@ pub fn words_are_spelled_as_they_are_read()
     ensures { AreSpelledAsRead }
 {}
 
-/// A script of `println` alone, with texts and sums, prints its lines in their order and does nothing else.
+/// A script of `println` alone, with expressions, prints its lines in their order and does nothing else.
 pub fn lines_are_printed_in_order()
     ensures { PrintLinesInOrder }
 {}

@@ -6,14 +6,20 @@
 //! grammar's tree. The crate stands on jd_syntax, with the trees and tokens below it, and on jd_value.
 #![tactic(auto)]
 
+mod builtins;
 mod calls;
 mod draft;
+mod expressions;
 mod fault;
 pub mod laws;
 mod lines;
+mod literals;
 mod names;
+mod operators;
+mod rows;
+mod scope;
 mod script;
-mod sums;
+mod shapes;
 
 pub use fault::LowerFault;
 pub use script::lower;

@@ -1,55 +1,30 @@
 //! Lines, each of which prints, assigns or is empty.
-ghost use Rattle.std.specs.Prelude.{◌≡◌, ◌++◌, ◌∷◌, [], Some, IfOk, option_map, slice_get};
+ghost use Rattle.std.specs.Prelude.{◌≡◌, ◌++◌, ◌∷◌, [], Some, IfOk, map, option_map};
 ghost use Rattle.jd_grammar.specs.declared.token.Word.TheVariants as word;
 ghost use Rattle.jd_grammar.specs.Kinds.{is_word};
-ghost use Rattle.jd_tree.specs.Plain.{plain, plain_listing};
+ghost use Rattle.jd_tree.specs.Plain.{plain, plain_item, plain_listing, items_of};
 ghost use Rattle.jd_script.specs.PlainScript.{plain_stmt, place_of};
-ghost use Rattle.jd_lower.specs.Names.{text};
-ghost use Rattle.jd_lower.specs.Sums.{call_of};
+ghost use Rattle.jd_lower.specs.Expressions.{call_of};
 ghost use Rattle.jd_lower.specs.Steps.{and_then, pure, Gives, Lowers};
 ghost use Rattle.jd_lower.specs.Lowering as lowering;
-ghost use Rattle.jd_lower.specs.Lowering.{fetched, remote_call, call_value, text_or_operand, argument, all_arguments, print_line, assign_call, assign, stmt_line, line_at};
+ghost use Rattle.jd_lower.specs.Lowering.{fetched, remote_call, call_value, argument, arguments, all_arguments, print_line, assign_call, assign, stmt_line, line_at};
 
 use crate::calls::{RemoteCall, body_of, lower_fetched, lower_remote_call};
 use crate::draft::Draft;
+use crate::expressions::{lower_call, lower_expression};
 use crate::fault::LowerFault;
-use crate::names::{is_fetch, is_remote_call, name_in, shared_text};
-use crate::sums::{callee_of, is_comma, lower_call, lower_operand, lower_sum, two_items};
+use crate::names::{is_fetch, is_remote_call, name_in};
+use crate::operators::two_items;
+use crate::scope::Scope;
+use crate::shapes::{callee_of, is_comma};
 use jd_grammar::token::{Kind, Name, Word};
-use jd_lexer::Text;
 use jd_script::tree as syntax_script;
 use jd_script::tree::Lead;
 use jd_tree::tree as syntax;
-use jd_tree::tree::Listing;
+use jd_tree::tree::{Item, Listing};
 use jd_value::{Body, Expr, Operation, OutOfMemory, Shared, Stmt, Txt};
-use sqlite_items::{Boxed, Items, at};
+use sqlite_items::{Boxed, Items};
 use std::alloc::Global;
-
-fn text_at(texts: &[Text], place: usize) -> &[u8]
-    ensures { result.now ≡ text (slice_get texts.now place) }
-{
-    match at(texts, place) {
-        Some(text) => text.as_slice(),
-        None => &[],
-    }
-}
-
-fn lower_leaf(
-    alloc: Global,
-    texts: &[Text],
-    names: &[Shared<Txt>],
-    kind: Kind,
-) -> Result<Expr, LowerFault>
-    ensures { Lowers (text_or_operand texts.now names.now kind) result }
-{
-    match kind {
-        Kind::Text(n) => {
-            let text = shared_text(alloc, text_at(texts, n as usize))?;
-            Ok(Expr::Text(text))
-        }
-        _ => lower_operand(alloc, names, kind),
-    }
-}
 
 /// Waits for the outcome of the future in a variable.
 fn fetch_into(
@@ -74,90 +49,102 @@ fn fetch_value(alloc: Global, x: Shared<Txt>, draft: &mut Draft) -> Result<Expr,
     Ok(Expr::Name(answer))
 }
 
-/// A call as an argument: `fetch(x)`, or a sum.
+/// A call as an argument: `fetch(x)`, or a builtin function.
 fn lower_call_value(
     alloc: Global,
-    names: &[Shared<Txt>],
+    scope: &Scope,
     listing: &Listing,
     f: Kind,
     draft: &mut Draft,
 ) -> Result<Expr, LowerFault>
     ensures { let inside = plain_listing listing.now in
-        Gives (call_value names.now f (fetched names.now inside.most inside.last) (call_of names.now f inside.most inside.last) draft.old) result draft.new }
+        Gives (call_value scope.now f (fetched scope.now inside.most inside.last) (call_of scope.now f inside.most inside.last) draft.old) result draft.new }
 {
-    if is_fetch(names, f) {
-        let x = lower_fetched(alloc, names, listing)?;
+    if is_fetch(scope.names.as_slice(), f) {
+        let x = lower_fetched(alloc, scope, listing)?;
         fetch_value(alloc, x, draft)
     } else {
-        lower_call(alloc, names, listing, f)
+        lower_call(alloc, scope, listing, f)
     }
 }
 
-/// A text, a sum, or `fetch(x)`.
+/// An expression, or `fetch(x)`.
 fn lower_argument(
     alloc: Global,
-    texts: &[Text],
-    names: &[Shared<Txt>],
+    scope: &Scope,
     x: &syntax::Expr,
     draft: &mut Draft,
 ) -> Result<Expr, LowerFault>
-    ensures { Gives (argument texts.now names.now (plain x.now) draft.old) result draft.new }
+    ensures { Gives (argument scope.now (plain x.now) draft.old) result draft.new }
 {
     match x {
-        syntax::Expr::Leaf(token) => lower_leaf(alloc, texts, names, token.kind),
         syntax::Expr::Call(f, before, listing) => lower_call_value(
             alloc,
-            names,
+            scope,
             listing.get(),
             callee_of(f.get(), before.as_slice()),
             draft,
         ),
-        _ => lower_sum(alloc, names, x),
+        _ => lower_expression(alloc, scope, x),
     }
 }
 
-/// The last argument behind the others.
-fn with_last(
+/// One more argument behind others.
+fn with_argument(
     alloc: Global,
-    texts: &[Text],
-    names: &[Shared<Txt>],
-    args: Items<Expr>,
-    last: &syntax::Expr,
+    scope: &Scope,
+    before: Items<Expr>,
+    x: &syntax::Expr,
     draft: &mut Draft,
 ) -> Result<Items<Expr>, LowerFault>
-    ensures { Gives (and_then (argument texts.now names.now (plain last.now) draft.old) (λ y. pure (args ++ y ∷ []))) result draft.new }
+    ensures { Gives (and_then (argument scope.now (plain x.now) draft.old) (λ y. pure (before ++ y ∷ []))) result draft.new }
 {
-    let mut args = args;
-    match lower_argument(alloc, texts, names, last, draft) {
+    let mut all = before;
+    match lower_argument(alloc, scope, x, draft) {
         Ok(argument) => {
-            args.push(argument)?;
-            Ok(args)
+            all.push(argument)?;
+            Ok(all)
         }
         Err(fault) => {
-            drop(args);
+            drop(all);
             Err(fault)
         }
     }
 }
 
-fn lower_arguments(
+/// The arguments before a comma each.
+fn lower_most(
     alloc: Global,
-    texts: &[Text],
-    names: &[Shared<Txt>],
-    listing: &Listing,
+    scope: &Scope,
+    items: &[Item],
     draft: &mut Draft,
 ) -> Result<Items<Expr>, LowerFault>
-    ensures { let inside = plain_listing listing.now in Gives (all_arguments texts.now names.now inside.most inside.last draft.old) result draft.new }
+    ensures { Gives (arguments scope.now (items_of (map plain_item items.now)) draft.old) result draft.new }
 {
     let mut args = Items::new(alloc);
-    for item in listing.items.as_slice() {
+    for item in items {
         if !is_comma(item.separator.kind) {
             return Err(LowerFault::NotBuilt);
         }
-        args.push(lower_argument(alloc, texts, names, &item.expr, draft)?)?;
+        match with_argument(alloc, scope, args, &item.expr, draft) {
+            Ok(next) => args = next,
+            Err(fault) => return Err(fault),
+        }
     }
+    Ok(args)
+}
+
+fn lower_arguments(
+    alloc: Global,
+    scope: &Scope,
+    listing: &Listing,
+    draft: &mut Draft,
+) -> Result<Items<Expr>, LowerFault>
+    ensures { let inside = plain_listing listing.now in Gives (all_arguments scope.now inside.most inside.last draft.old) result draft.new }
+{
+    let args = lower_most(alloc, scope, listing.items.as_slice(), draft)?;
     match &listing.last {
-        Some(last) => with_last(alloc, texts, names, args, last, draft),
+        Some(last) => with_argument(alloc, scope, args, last, draft),
         None => Ok(args),
     }
 }
@@ -186,19 +173,18 @@ fn is_println(kind: Kind) -> bool
 /// A call of `println`.
 fn lower_print(
     alloc: Global,
-    texts: &[Text],
-    names: &[Shared<Txt>],
+    scope: &Scope,
     x: &syntax::Expr,
     draft: &mut Draft,
 ) -> Result<(), LowerFault>
-    ensures { Gives (print_line texts.now names.now (plain x.now) draft.old) result draft.new }
+    ensures { Gives (print_line scope.now (plain x.now) draft.old) result draft.new }
 {
     match x {
         syntax::Expr::Call(f, before, listing) => {
             if !is_println(callee_of(f.get(), before.as_slice())) {
                 return Err(LowerFault::NotBuilt);
             }
-            let values = lower_arguments(alloc, texts, names, listing.get(), draft)?;
+            let values = lower_arguments(alloc, scope, listing.get(), draft)?;
             print(alloc, values, draft)
         }
         _ => Err(LowerFault::NotBuilt),
@@ -250,28 +236,28 @@ fn call_into(
     }
 }
 
-/// A call as a right side: a fetch, a call in another process, or a sum.
+/// A call as a right side: a fetch, a call in another process, or an expression.
 fn lower_assigned_call(
     alloc: Global,
-    names: &[Shared<Txt>],
+    scope: &Scope,
     x: Shared<Txt>,
     listing: &Listing,
     f: Kind,
     draft: &mut Draft,
 ) -> Result<(), LowerFault>
     ensures { let inside = plain_listing listing.now in
-        Gives (assign_call names.now x f (fetched names.now inside.most inside.last) (remote_call names.now inside.most inside.last) (call_of names.now f inside.most inside.last) draft.old) result draft.new }
+        Gives (assign_call scope.now x f (fetched scope.now inside.most inside.last) (remote_call scope.now inside.most inside.last) (call_of scope.now f inside.most inside.last) draft.old) result draft.new }
 {
-    if is_fetch(names, f) {
-        match lower_fetched(alloc, names, listing) {
+    if is_fetch(scope.names.as_slice(), f) {
+        match lower_fetched(alloc, scope, listing) {
             Ok(future) => fetch_into(alloc, x, future, draft),
             Err(fault) => {
                 drop(x);
                 Err(fault)
             }
         }
-    } else if is_remote_call(names, f) {
-        match lower_remote_call(alloc, names, listing) {
+    } else if is_remote_call(scope.names.as_slice(), f) {
+        match lower_remote_call(alloc, scope, listing) {
             Ok(call) => call_into(alloc, x, call, draft),
             Err(fault) => {
                 drop(x);
@@ -279,8 +265,8 @@ fn lower_assigned_call(
             }
         }
     } else {
-        match lower_call(alloc, names, listing, f) {
-            Ok(sum) => draft.write(Stmt::Set(x, sum)),
+        match lower_call(alloc, scope, listing, f) {
+            Ok(value) => draft.write(Stmt::Set(x, value)),
             Err(fault) => {
                 drop(x);
                 Err(fault)
@@ -292,43 +278,42 @@ fn lower_assigned_call(
 /// An assignment.
 fn lower_assignment(
     alloc: Global,
-    names: &[Shared<Txt>],
+    scope: &Scope,
     x: Shared<Txt>,
     right: &syntax::Expr,
     draft: &mut Draft,
 ) -> Result<(), LowerFault>
-    ensures { Gives (assign names.now x (plain right.now) draft.old) result draft.new }
+    ensures { Gives (assign scope.now x (plain right.now) draft.old) result draft.new }
 {
     match right {
         syntax::Expr::Call(f, before, listing) => lower_assigned_call(
             alloc,
-            names,
+            scope,
             x,
             listing.get(),
             callee_of(f.get(), before.as_slice()),
             draft,
         ),
         _ => {
-            let sum = lower_sum(alloc, names, right)?;
-            draft.write(Stmt::Set(x, sum))
+            let value = lower_expression(alloc, scope, right)?;
+            draft.write(Stmt::Set(x, value))
         }
     }
 }
 
 fn lower_stmt(
     alloc: Global,
-    texts: &[Text],
-    names: &[Shared<Txt>],
+    scope: &Scope,
     written: &syntax_script::Stmt,
     draft: &mut Draft,
 ) -> Result<(), LowerFault>
-    ensures { Gives (stmt_line texts.now names.now (plain_stmt written.now) draft.old) result draft.new }
+    ensures { Gives (stmt_line scope.now (plain_stmt written.now) draft.old) result draft.new }
 {
     match written {
-        syntax_script::Stmt::Ended(Lead::Bare, x) => lower_print(alloc, texts, names, x, draft),
+        syntax_script::Stmt::Ended(Lead::Bare, x) => lower_print(alloc, scope, x, draft),
         syntax_script::Stmt::Ended(Lead::Assigned(name, _), right) => {
-            let name = name_in(alloc, names, name.kind)?;
-            lower_assignment(alloc, names, name, right, draft)
+            let name = name_in(alloc, scope.names.as_slice(), name.kind)?;
+            lower_assignment(alloc, scope, name, right, draft)
         }
         _ => Err(LowerFault::NotBuilt),
     }
@@ -337,15 +322,14 @@ fn lower_stmt(
 /// What stands at a place: nothing, a call of `println`, or an assignment.
 pub fn lower_place(
     alloc: Global,
-    texts: &[Text],
-    names: &[Shared<Txt>],
+    scope: &Scope,
     place: &Option<Boxed<syntax_script::Stmt>>,
     draft: &mut Draft,
 ) -> Result<(), LowerFault>
-    ensures { Gives (line_at texts.now names.now (place_of (option_map plain_stmt place.now)) draft.old) result draft.new }
+    ensures { Gives (line_at scope.now (place_of (option_map plain_stmt place.now)) draft.old) result draft.new }
 {
     match place {
-        Some(stmt) => lower_stmt(alloc, texts, names, stmt.get(), draft),
+        Some(stmt) => lower_stmt(alloc, scope, stmt.get(), draft),
         None => Ok(()),
     }
 }

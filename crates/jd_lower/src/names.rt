@@ -1,5 +1,5 @@
 //! The texts of names.
-ghost use Rattle.std.specs.Prelude.{◌≡◌, IfOk, option_map};
+ghost use Rattle.std.specs.Prelude.{◌≡◌, IfOk, option_map, slice_get};
 ghost use Rattle.jd_grammar.specs.declared.token.Kind.TheVariants as kind;
 ghost use Rattle.jd_lower.specs.Names as names_spec;
 ghost use Rattle.jd_lower.specs.Names.{word_text, name_text, name_in};
@@ -38,25 +38,35 @@ fn word_text(word: Word) -> &'static [u8]
 }
 
 /// A text with many owners.
-pub fn shared_text(alloc: Global, bytes: &[u8]) -> Result<Shared<Txt>, OutOfMemory>
+fn shared_text(alloc: Global, bytes: &[u8]) -> Result<Shared<Txt>, OutOfMemory>
     ensures { IfOk result (λ text. text ≡ bytes.now) }
 {
     Shared::new(alloc, Txt::from_bytes(alloc, bytes)?)
 }
 
-/// Each name with many owners, so that its uses share one text.
-pub fn shared_names(alloc: Global, names: &[Text]) -> Result<Items<Shared<Txt>>, OutOfMemory>
-    ensures { IfOk result (λ shared. shared ≡ names.now) }
+/// Each text with many owners, so that its uses share it.
+pub fn shared_texts(alloc: Global, texts: &[Text]) -> Result<Items<Shared<Txt>>, OutOfMemory>
+    ensures { IfOk result (λ shared. shared ≡ texts.now) }
 {
     let mut shared = Items::new(alloc);
-    for name in names {
-        shared.push(shared_text(alloc, name.as_slice())?)?;
+    for text in texts {
+        shared.push(shared_text(alloc, text.as_slice())?)?;
     }
     Ok(shared)
 }
 
+/// The text of a number, empty where there is none.
+pub fn shared_at(alloc: Global, texts: &[Shared<Txt>], n: usize) -> Result<Shared<Txt>, OutOfMemory>
+    ensures { IfOk result (λ text. text ≡ names_spec.text (slice_get texts.now n)) }
+{
+    match at(texts, n) {
+        Some(text) => text.share(),
+        None => shared_text(alloc, &[]),
+    }
+}
+
 /// How a name is spelled.
-fn name_text(names: &[Shared<Txt>], name: Name) -> &[u8]
+pub fn name_text(names: &[Shared<Txt>], name: Name) -> &[u8]
     ensures { result.now ≡ name_text names.now name }
 {
     match name {

@@ -8,8 +8,8 @@ use Rattle.jd_value.specs.declared.fault.Fault.TheVariants.{Exited, Remote}
 use Rattle.jd_value.specs.declared.value.Value.{Value}
 use Rattle.jd_value.specs.declared.value.Value.TheVariants.{Nothing, Future}
 use Rattle.jd_value.specs.declared.tree.Program.{Program}
+use Rattle.jd_value.specs.References.{references}
 use Rattle.jd_value.specs.Shown.{shown}
-use Rattle.jd_value.specs.declared.value.Value.TheVariants as value
 use Rattle.jd_expr.specs.declared.variable.Variable.{Variable}
 use Rattle.jd_task.specs.declared.job.TaskId.{TaskId}
 use Rattle.jd_task.specs.declared.closure.Closure.{Closure}
@@ -285,9 +285,9 @@ abbrev pub turned : State → TaskId → Task → Place → Turn → State
 turned s t k place (Ended o) = over s t k o
 turned s t k place (Asks op) = wants s t k place (asking s.workers (s.noticed k.home) (is_main t) op)
 
+-- A value mentions what stands anywhere in it.
 abbrev pub mentions : Value → RefId → Bool
-mentions (value.Future x) r = is_same r x
-mentions _ r = false
+mentions v r = list_any (is_same r) (references v)
 
 abbrev pub in_variables : List Variable → RefId → Bool
 in_variables vars r = list_any (λ v. mentions v.value r) vars

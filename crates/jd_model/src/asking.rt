@@ -1,5 +1,6 @@
 //! What an operation wants.
-ghost use Rattle.std.specs.Prelude.{◌≡◌, ◌+◌, ◌<◌, ◌^◌};
+ghost use Rattle.std.specs.Prelude.{◌≡◌, ◌+◌, ◌<◌, ◌^◌, ◌∷◌, Some};
+ghost use Rattle.jd_value.specs.declared.value.Value.TheVariants.{Int};
 ghost use Rattle.jd_model.specs.Asking as spec;
 ghost use Rattle.jd_model.specs.Noticed.{noticed_in};
 
@@ -47,8 +48,9 @@ fn fetching(workers: u32, mut args: Items<Value>) -> Asking
     }
     match args.remove(0) {
         Value::Future(reference) => {
-            if is_known(workers, reference.owner) {
-                Asking::Fetches(reference)
+            let cell = *reference.get();
+            if is_known(workers, cell.owner) {
+                Asking::Fetches(cell)
             } else {
                 Asking::Answers(Err(Fault::Argument))
             }
@@ -80,23 +82,55 @@ fn calling_at(
     }
 }
 
-/// What a call wants.
-fn calling(workers: u32, noticed: &[u32], body: Option<Closure>, mut args: Items<Value>) -> Asking
+/// What a call on the process of that number wants.
+fn calling_on(
+    workers: u32,
+    noticed: &[u32],
+    process: i64,
+    code: Closure,
+    args: Items<Value>,
+) -> Asking
     requires { workers + 1 < 2 ^ 32 }
-    ensures { result ≡ spec.calling workers (noticed_in noticed.now) body args }
+    ensures { result ≡ spec.calling workers (noticed_in noticed.now) (Some code) (Int process ∷ args) }
 {
-    let Some(code) = body else {
-        return Asking::Answers(Err(Fault::BadType));
-    };
+    match u32::try_from(process) {
+        Ok(process) => calling_at(workers, noticed, process, code, args),
+        Err(_) => {
+            drop((code, args));
+            Asking::Answers(Err(Fault::Argument))
+        }
+    }
+}
+
+/// What a call of this code wants.
+fn calling_code(workers: u32, noticed: &[u32], code: Closure, mut args: Items<Value>) -> Asking
+    requires { workers + 1 < 2 ^ 32 }
+    ensures { result ≡ spec.calling workers (noticed_in noticed.now) (Some code) args }
+{
     if args.is_empty() {
+        drop((code, args));
         return Asking::Answers(Err(Fault::BadType));
     }
     match args.remove(0) {
-        Value::Int(process) => match u32::try_from(process) {
-            Ok(process) => calling_at(workers, noticed, process, code, args),
-            Err(_) => Asking::Answers(Err(Fault::Argument)),
-        },
-        _ => Asking::Answers(Err(Fault::BadType)),
+        Value::Int(process) => calling_on(workers, noticed, process, code, args),
+        first => {
+            drop((first, code, args));
+            Asking::Answers(Err(Fault::BadType))
+        }
+    }
+}
+
+/// What a call wants.
+fn calling(workers: u32, noticed: &[u32], body: Option<Closure>, args: Items<Value>) -> Asking
+    requires { workers + 1 < 2 ^ 32 }
+    ensures { result ≡ spec.calling workers (noticed_in noticed.now) body args }
+{
+    match body {
+        Some(code) => calling_code(workers, noticed, code, args),
+        None => {
+            drop(args);
+            Asking::Answers(Err(Fault::BadType))
+        }
     }
 }
 

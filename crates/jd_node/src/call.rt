@@ -1,13 +1,14 @@
 //! A task calls another.
-ghost use Rattle.std.specs.Prelude.{◌≡◌, OnOk, ◌≢◌, ◌+◌, ◌==◌, if◌then◌else◌};
+ghost use Rattle.std.specs.Prelude.{◌≡◌, OnOk, Ok, ◌≢◌, ◌+◌, ◌==◌, if◌then◌else◌};
+ghost use Rattle.jd_value.specs.declared.value.Value.TheVariants.{Future};
 ghost use Rattle.jd_model.specs.Node as spec;
-ghost use Rattle.jd_node.specs.View.{node_of, id_of, Makes};
+ghost use Rattle.jd_node.specs.View.{node_of, effects_of, id_of, Makes};
 ghost use Rattle.jd_node.specs.Steps.{greatest};
 
 use crate::finish::Asker;
 use crate::node::Node;
 use jd_task::{Closure, Msg, TaskId};
-use jd_value::{OutOfMemory, RefId, Value};
+use jd_value::{OutOfMemory, RefId, Shared, Value};
 use sqlite_items::Items;
 
 impl Node {
@@ -35,10 +36,30 @@ impl Node {
         };
         self.made = cell.number;
         self.called = task.number;
-        match self.make_ready(asker.task, asker.cell, asker.place, Ok(Value::Future(cell))) {
+        match self.give_future(asker, cell) {
             Ok(()) => self.call_at(cell, task, code, args),
             Err(refused) => {
                 drop((code, args));
+                Err(refused)
+            }
+        }
+    }
+
+    /// A task can go on with the future of that cell.
+    fn give_future(&mut self, asker: Asker, cell: RefId) -> Result<(), OutOfMemory>
+        ensures node { OnOk result (node_of self.new ≡ spec.readied (node_of self.old) asker.task asker.cell asker.place (Ok (Future cell))) }
+        ensures effects { effects_of self.new ≡ effects_of self.old }
+        ensures id { id_of self.new ≡ id_of self.old }
+    {
+        match Shared::new(self.alloc, cell) {
+            Ok(future) => self.make_ready(
+                asker.task,
+                asker.cell,
+                asker.place,
+                Ok(Value::Future(future)),
+            ),
+            Err(refused) => {
+                drop(asker);
                 Err(refused)
             }
         }

@@ -110,7 +110,10 @@ impl Node {
         ensures id { id_of self.new ≡ id_of self.old }
     {
         match self.asks.take(ask) {
-            None => Ok(()),
+            None => {
+                drop(outcome);
+                Ok(())
+            }
             Some(open) => self.answer_task(open.task, open.cell, outcome),
         }
     }

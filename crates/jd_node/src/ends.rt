@@ -10,6 +10,7 @@ use jd_model::Effect;
 use jd_task::Msg;
 use jd_value::{Ask, Fault, OutOfMemory, Outcome, RefId, Shared, copy_outcome};
 use std::alloc::Global;
+use std::mem::replace;
 
 /// A fault of a task, as others see it: it came from that process.
 fn passed_on(alloc: Global, process: u32, outcome: Outcome) -> Result<Outcome, OutOfMemory>
@@ -29,7 +30,7 @@ impl Node {
     {
         match cell {
             None => {
-                self.main_end = Some(outcome);
+                drop(replace(&mut self.main_end, Some(outcome)));
                 Ok(())
             }
             Some(cell) => self.end_called(cell, outcome),
@@ -42,7 +43,9 @@ impl Node {
         ensures id { id_of self.new ≡ id_of self.old }
     {
         let outcome = passed_on(self.alloc, self.id, outcome)?;
-        self.set_once(cell, &outcome)
+        let set = self.set_once(cell, &outcome);
+        drop(outcome);
+        set
     }
 
     fn is_set(&self, cell: RefId) -> bool
@@ -93,7 +96,10 @@ impl Node {
         ensures step { OnOk result (Makes self.old (spec.woken (id_of self.old) (node_of self.old) ask answer) self.new) }
         ensures id { id_of self.new ≡ id_of self.old }
     {
-        self.note(Effect::Took(ask))?;
+        if let Err(refused) = self.note(Effect::Took(ask)) {
+            drop(answer);
+            return Err(refused);
+        }
         if ask.process == self.id {
             return self.answer(ask.number, answer);
         }

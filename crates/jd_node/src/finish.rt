@@ -79,8 +79,13 @@ impl Node {
         ensures step { OnOk result (Makes self.old (spec.behind (Ran task ∷ []) (spec.ended (id_of self.old) (node_of self.old) cell outcome)) self.new) }
         ensures id { id_of self.new ≡ id_of self.old }
     {
-        self.note(Effect::Ran(task))?;
-        self.end(cell, outcome)
+        match self.note(Effect::Ran(task)) {
+            Ok(()) => self.end(cell, outcome),
+            Err(refused) => {
+                drop(outcome);
+                Err(refused)
+            }
+        }
     }
 
     /// A step of a task is done, at an operation.

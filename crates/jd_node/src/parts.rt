@@ -85,6 +85,7 @@ impl Node {
         ensures id { id_of self.new ≡ id_of self.old }
     {
         if self.cache.at(cell).is_some() {
+            drop(outcome);
             return Ok(());
         }
         self.cache.put(cell, outcome)

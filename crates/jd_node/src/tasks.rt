@@ -10,6 +10,7 @@ use jd_task::TaskId;
 use jd_value::OutOfMemory;
 use std::alloc::Global;
 use std::collections::HashMap;
+use std::mem::replace;
 
 #[derive(Drop)]
 pub struct Tasks {
@@ -58,7 +59,7 @@ impl Tasks {
                 false
             }
             Some(row) => {
-                row.stage = stage;
+                drop(replace(&mut row.stage, stage));
                 true
             }
         }

@@ -39,7 +39,7 @@ impl Cells {
     pub fn make(&mut self, cell: RefId) -> Result<(), OutOfMemory>
         ensures { OnOk result (cells_of self.new ≡ put3 (cells_of self.old) cell.maker cell.number cell.owner (Some None)) }
     {
-        self.held.insert(cell, None)?;
+        drop(self.held.insert(cell, None)?);
         Ok(())
     }
 

@@ -4,7 +4,7 @@ ghost use Rattle.std.specs.HashSet.{contains};
 ghost use Rattle.std.specs.List.{list_any};
 ghost use Rattle.std.specs.Option.{option_copied};
 ghost use Rattle.jd_value.specs.declared.reference.RefId.{RefId as Cell};
-ghost use Rattle.jd_model.specs.Machine.{in_variables, in_task, mentions};
+ghost use Rattle.jd_model.specs.Machine.{is_same, has, in_variables, in_task, mentions};
 ghost use Rattle.jd_plain.specs.Held.{task_of};
 ghost use Rattle.jd_plain.specs.Occurs.{is_in, in_variable, Adds};
 ghost use Rattle.jd_plain.specs.Tables.{tasks_of};
@@ -14,22 +14,40 @@ use crate::tasks::Tasks;
 use jd_expr::Env;
 use jd_model::Life;
 use jd_task::TaskId;
-use jd_value::{OutOfMemory, RefId, Value};
+use jd_value::{OutOfMemory, RefId, Value, push_references};
+use sqlite_items::Items;
 use std::alloc::Global;
 use std::collections::HashSet;
 
-/// Adds the reference that a value is.
-fn add_value(found: &mut HashSet<RefId>, value: &Value) -> Result<(), OutOfMemory>
-    ensures { OnOk result (Adds (mentions value.now) found.old found.new) }
+fn add(found: &mut HashSet<RefId>, cell: RefId) -> Result<(), OutOfMemory>
+    ensures { OnOk result (Adds (λ r. is_same r cell) found.old found.new) }
 {
-    if let Value::Future(cell) = value {
-        found.insert(*cell)?;
+    found.insert(cell)?;
+    Ok(())
+}
+
+/// Adds these references.
+fn add_all(found: &mut HashSet<RefId>, cells: &[RefId]) -> Result<(), OutOfMemory>
+    ensures { OnOk result (Adds (has cells.now) found.old found.new) }
+{
+    for cell in cells {
+        add(found, *cell)?;
     }
     Ok(())
 }
 
-/// Adds the reference in the variable at this place, if there is one.
+/// Adds every reference in a value.
+fn add_value(alloc: Global, found: &mut HashSet<RefId>, value: &Value) -> Result<(), OutOfMemory>
+    ensures { OnOk result (Adds (mentions value.now) found.old found.new) }
+{
+    let mut cells = Items::new(alloc);
+    push_references(value, &mut cells)?;
+    add_all(found, cells.as_slice())
+}
+
+/// Adds the references in the variable at this place, if there is one.
 fn add_variable(
+    alloc: Global,
     found: &mut HashSet<RefId>,
     variables: &Env,
     place: usize,
@@ -37,23 +55,28 @@ fn add_variable(
     ensures { OnOk result (Adds (in_variable (slice_get variables.now place)) found.old found.new) }
 {
     match variables.variable_at(place) {
-        Some((_, value)) => add_value(found, value),
+        Some((_, value)) => add_value(alloc, found, value),
         None => Ok(()),
     }
 }
 
 /// Adds the references in these variables.
-fn add_variables(found: &mut HashSet<RefId>, variables: &Env) -> Result<(), OutOfMemory>
+fn add_variables(
+    alloc: Global,
+    found: &mut HashSet<RefId>,
+    variables: &Env,
+) -> Result<(), OutOfMemory>
     ensures { OnOk result (Adds (in_variables variables.now) found.old found.new) }
 {
     for place in 0..variables.len() {
-        add_variable(found, variables, place)?;
+        add_variable(alloc, found, variables, place)?;
     }
     Ok(())
 }
 
 /// Adds the references in the variables of a task, if it runs on that process.
 fn add_task(
+    alloc: Global,
     found: &mut HashSet<RefId>,
     process: u32,
     task: Option<&Task>,
@@ -69,7 +92,7 @@ fn add_task(
             },
         ) => {
             if *home == process {
-                add_variables(found, &place.variables)
+                add_variables(alloc, found, &place.variables)
             } else {
                 Ok(())
             }
@@ -89,7 +112,7 @@ pub fn occurring(
 {
     let mut found = HashSet::new(alloc);
     for task in running {
-        add_task(&mut found, process, tasks.get(*task))?;
+        add_task(alloc, &mut found, process, tasks.get(*task))?;
     }
     Ok(found)
 }

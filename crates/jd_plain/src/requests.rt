@@ -10,6 +10,7 @@ use jd_model::Answer;
 use jd_value::{Ask, OutOfMemory};
 use std::alloc::Global;
 use std::collections::HashMap;
+use std::mem::replace;
 
 /// The requests by the process that asked them and their numbers there.
 #[derive(Drop)]
@@ -38,7 +39,7 @@ impl Requests {
     pub fn put(&mut self, ask: Ask, request: Request) -> Result<(), OutOfMemory>
         ensures { OnOk result (requests_of self.new ≡ put2 (requests_of self.old) ask.process ask.number (Some (request_of request))) }
     {
-        self.held.insert(ask, request)?;
+        drop(self.held.insert(ask, request)?);
         Ok(())
     }
 
@@ -47,7 +48,7 @@ impl Requests {
         ensures { requests_of self.new ≡ put2 (requests_of self.old) ask.process ask.number (option_map (answered_with answer) (requests_of self.old ask.process ask.number)) }
     {
         match self.held.get_mut(&ask) {
-            Some(held) => held.answer = answer,
+            Some(held) => drop(replace(&mut held.answer, answer)),
             None => drop(answer),
         }
     }

@@ -16,6 +16,7 @@ use jd_task::{Place, TaskId};
 use jd_value::{OutOfMemory, Program, Value};
 use std::alloc::Global;
 use std::collections::HashMap;
+use std::mem::replace;
 
 /// The tasks by the process that called them and their numbers there.
 #[derive(Drop)]
@@ -92,7 +93,7 @@ impl Tasks {
     {
         match self.held.get_mut(&task) {
             Some(held) => match &mut held.life {
-                Life::Running { stage: old, .. } => *old = stage,
+                Life::Running { stage: old, .. } => drop(replace(old, stage)),
                 _ => drop(stage),
             },
             None => drop(stage),

@@ -1,7 +1,9 @@
 //! What tasks come to: operations that they ask, and ends.
-ghost use Rattle.std.specs.Prelude.{◌≡◌, ◌+◌, IfOk, OnOk, None, Some, filter, not};
+ghost use Rattle.std.specs.Prelude.{◌≡◌, ◌+◌, IfOk, OnOk, None, Some, Ok, filter, not};
+ghost use Rattle.jd_value.specs.declared.value.Value.TheVariants.{Future};
 ghost use Rattle.jd_model.specs.Machine as machine;
 ghost use Rattle.jd_model.specs.declared.life.Life.TheVariants as running;
+ghost use Rattle.jd_model.specs.declared.life.Stage.TheVariants as stage;
 ghost use Rattle.jd_model.specs.Table.{put, put2, put3};
 ghost use Rattle.jd_plain.specs.State.{state_of};
 ghost use Rattle.jd_plain.specs.Steps.{going_task};
@@ -83,6 +85,19 @@ impl Plain {
         self.put_life(going, Life::Running { place, stage })
     }
 
+    /// Puts a task back at that place, where it goes on with the future of that cell.
+    fn put_future(&mut self, going: Going, place: Place, cell: RefId) -> Result<(), OutOfMemory>
+        ensures { OnOk result (state_of self.new ≡ machine.with_life (state_of self.old) going.task (going_task going) (running.Running place (stage.Ready (Ok (Future cell))))) }
+    {
+        match Shared::new(self.alloc, cell) {
+            Ok(future) => self.put_stage(going, place, Stage::Ready(Ok(Value::Future(future)))),
+            Err(refused) => {
+                drop(place);
+                Err(refused)
+            }
+        }
+    }
+
     /// Sets the cell of a task that has ended on that process.
     fn settle(&mut self, process: u32, cell: RefId, outcome: Outcome) -> Result<(), OutOfMemory>
         ensures { OnOk result (state_of self.new ≡ machine.set_cell (state_of self.old) cell (machine.passed_on process outcome)) }
@@ -114,9 +129,16 @@ impl Plain {
     fn end(&mut self, going: Going, outcome: Outcome) -> Result<(), OutOfMemory>
         ensures { OnOk result (state_of self.new ≡ machine.over (state_of self.old) going.task (going_task going) outcome) }
     {
-        self.put_life(going, Life::Over)?;
-        remove(&mut self.running, going.task);
-        self.end_with(going.home, going.cell, outcome)
+        match self.put_life(going, Life::Over) {
+            Ok(()) => {
+                remove(&mut self.running, going.task);
+                self.end_with(going.home, going.cell, outcome)
+            }
+            Err(refused) => {
+                drop(outcome);
+                Err(refused)
+            }
+        }
     }
 
     /// A task asks for a cell's outcome.
@@ -212,7 +234,7 @@ impl Plain {
     ) -> Result<(), OutOfMemory>
         ensures { OnOk result (state_of self.new ≡ machine.calls (state_of self.old) going.task (going_task going) place cell called code args) }
     {
-        match self.put_stage(going, place, Stage::Ready(Ok(Value::Future(cell)))) {
+        match self.put_future(going, place, cell) {
             Ok(()) => self.put_called(going.home, cell, called, code, args),
             Err(refused) => {
                 drop((code, args));
@@ -246,8 +268,18 @@ impl Plain {
             },
         )?;
         self.cells.make(cell)?;
-        self.made.put(home, cell.number)?;
-        self.called.put(home, called.number)?;
+        self.count(home, cell.number, called.number)
+    }
+
+    /// A process has made its cell and called its task of these numbers.
+    fn count(&mut self, home: u32, made: u64, called: u64) -> Result<(), OutOfMemory>
+        ensures { OnOk result (state_of self.new ≡ record (state_of self.old) {
+          made = put (state_of self.old).made home made;
+          called = put (state_of self.old).called home called;
+        }) }
+    {
+        self.made.put(home, made)?;
+        self.called.put(home, called)?;
         Ok(())
     }
 

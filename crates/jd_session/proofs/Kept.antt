@@ -1,6 +1,6 @@
 -- What each way out of a step leaves.
 use Rattle.std.proofs.Common.{arith, ◌≡◌, ◌⊎◌, inl, inr, ℕ, ◌+◌, ◌-◌, ◌^◌, ◌==◌, Bool, true, false, ◌≤◌, ◌<◌, List, [], ◌∷◌, ◌++◌, Option, Some, None, Result, Ok, Err, refl, ap, sym, subst, ◌∙◌}
-use Rattle.std.specs.Prelude.{IfSome, IsSome, IfErr, MatchOption, ◌||◌}
+use Rattle.std.specs.Prelude.{IfSome, IsSome, IfErr, MatchOption, ◌||◌, option_map, unwrap_or}
 use Rattle.std.specs.Io.KnownBytes.{Appends}
 use Rattle.jd_source.specs.Counts.{Rose}
 use Rattle.jd_source.specs.Content.{AppendsPart}
@@ -262,3 +262,8 @@ unmade n x s is p st old new j = subst (λ t. LeavesAtStop p st t x old new) (sy
 pub main_ended : (n : Node) (x : Option Told) (e : Ending) → (o : Outcome) × (n.main_end ≡ Some o) × (e ≡ ending_of o)
     → (p : Program) (st : Start) (old new : Option (List ℕ)) → IsJoined p st n x old new → IfSome x (EndsAs p st (end.Ended e) old new)
 main_ended n x e h p st old new j = subst (λ d. IfSome x (EndsAs p st (end.Ended d) old new)) (sym h.2) (join_ended p st n h.0 x old new h.1 j)
+
+-- how main ended, where it has
+pub has_ended : (e : Ending) (o : Option Outcome) → Some e ≡ option_map ending_of o → (x : Outcome) × (o ≡ Some x) × (e ≡ ending_of x)
+has_ended e None h = absurd (grind (arith, h))
+has_ended e (Some x) h = (x, refl, ap (λ o. unwrap_or o e) h)

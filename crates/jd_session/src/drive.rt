@@ -114,8 +114,14 @@ pub fn run<K: Sink, F: Fabric>(
         Err(stop) => return end_of(stop),
     };
     match fabric.begin(start) {
-        Ok(()) => {}
-        Err(fault) => return end_of(stop_of(fault)),
+        Ok(()) => {
+            let end = drive(alloc, &mut session, out, fabric);
+            drop(session);
+            end
+        }
+        Err(fault) => {
+            drop(session);
+            end_of(stop_of(fault))
+        }
     }
-    drive(alloc, &mut session, out, fabric)
 }

@@ -16,7 +16,7 @@ use jd_model::{Effect, Ending, Mark, Start};
 use jd_node::{Node, NodeFault};
 use jd_source::{Sink, write_whole};
 use jd_task::Msg;
-use jd_value::{Program, Txt, Value, copy_outcome, print_value};
+use jd_value::{Program, Txt, Value, print_value};
 use jd_world::Fabric;
 use std::alloc::Global;
 
@@ -183,14 +183,13 @@ impl Session {
         ensures some { IfOk result (λ ending. ending ≡ option_map ending_of (node_of self.now.hub).main_end) }
         ensures memory { IfErr result (λ e. e ≡ OutOfMemory) }
     {
-        let outcome = match self.hub.main_end() {
-            Some(outcome) => copy_outcome(outcome),
-            None => return Ok(None),
-        };
-        match outcome {
-            Ok(Ok(_)) => Ok(Some(Ending::Normal)),
-            Ok(Err(fault)) => Ok(Some(Ending::Fault(fault))),
-            Err(_) => Err(Stop::OutOfMemory),
+        match self.hub.main_end() {
+            None => Ok(None),
+            Some(Ok(_)) => Ok(Some(Ending::Normal)),
+            Some(Err(fault)) => match fault.copy() {
+                Ok(fault) => Ok(Some(Ending::Fault(fault))),
+                Err(_) => Err(Stop::OutOfMemory),
+            },
         }
     }
 
@@ -216,10 +215,32 @@ impl Session {
         ensures cause { HasStepCause (K.faults out.old) (K.faults out.new) (F.faults fabric.old) (F.faults fabric.new) (F.limits fabric.old) (F.limits fabric.new) (node_of self.old.hub) (F.told fabric.new) result }
     {
         match self.ended() {
-            Ok(None) => {}
-            Ok(Some(ending)) => return Ok(Step::Ended(ending)),
-            Err(stop) => return Err(stop),
+            Ok(None) => self.go(alloc, out, fabric),
+            Ok(Some(ending)) => Ok(Step::Ended(ending)),
+            Err(stop) => Err(stop),
         }
+    }
+
+    /// Makes at least one event of process 1, where main hasn't ended, or says that none can be made.
+    fn go<K: Sink, F: Fabric>(
+        &mut self,
+        alloc: Global,
+        out: &mut K,
+        fabric: &mut F,
+    ) -> Result<Step, Stop>
+        requires running { (node_of self.old.hub).main_end ≡ None }
+        requires begun { IsBegunWith (F.begun fabric.old) self.old.workers }
+        requires process { id_of self.old.hub ≡ 1 }
+        ensures kept { (p : TheProgram) (st : TheStart) (old : Option (List ℕ)) → IsJoined p st (node_of self.old.hub) (F.told fabric.old) old (K.written out.old) → Leaves p st result (node_of self.new.hub) (F.told fabric.new) old (K.written out.new) }
+        ensures ended { IfOk result (λ s. HasEnded s (node_of self.new.hub)) }
+        ensures needs { IfOk result (λ s. s ≡ Needs → IsIdle (node_of self.new.hub) self.new.workers × (F.told fabric.new ≡ F.told fabric.old) × (node_of self.new.hub ≡ node_of self.old.hub)) }
+        ensures workers { self.new.workers ≡ self.old.workers }
+        ensures process { id_of self.new.hub ≡ 1 }
+        ensures begun { F.begun fabric.new ≡ F.begun fabric.old }
+        ensures tells { is_some (F.told fabric.new) ≡ is_some (F.told fabric.old) }
+        ensures falls { IfOk result (λ s. s ≡ Went → IsSome (F.told fabric.old) → work_left (node_of self.new.hub) self.old.workers (F.told fabric.new) < work_left (node_of self.old.hub) self.old.workers (F.told fabric.old)) }
+        ensures cause { HasStepCause (K.faults out.old) (K.faults out.new) (F.faults fabric.old) (F.faults fabric.new) (F.limits fabric.old) (F.limits fabric.new) (node_of self.old.hub) (F.told fabric.new) result }
+    {
         if let Some(to) = self.next_mail() {
             return match self.send_next(to, fabric) {
                 Ok(()) => Ok(Step::Went),

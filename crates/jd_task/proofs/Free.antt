@@ -1,11 +1,10 @@
 -- The free names of a body by a set of its bound ones.
-use Rattle.std.proofs.Common.{◌≡◌, ◌||◌, ℕ, List, [], ◌++◌, flat_map, sym, ap, ◌∙◌}
+use Rattle.std.proofs.Common.{◌≡◌, ◌||◌, ℕ, List, [], ◌++◌, sym, ap, ◌∙◌}
 use Rattle.std.proofs.lemmas.List.Folds.{list_any-append}
 use Rattle.std.specs.Str.{bytes_eq}
 use Rattle.jd_value.specs.declared.tree.Body.{Body, out-Body}
-use Rattle.jd_value.specs.declared.tree.Block.{out-Block}
 use Rattle.jd_task.specs.Bound.{with_names}
-use Rattle.jd_task.specs.Names.{Texts, is_among, first_uses, used_of, bound_of, uses_of, free_names}
+use Rattle.jd_task.specs.Names.{Texts, is_among, first_uses, used_of, bound_of, block_uses_of, free_names}
 use Rattle.jd_task.proofs.Among.{among_set, same_uses}
 use Rattle.jd_task.proofs.Uses.{free_of}
 
@@ -15,11 +14,11 @@ same_bound n xs ys =
     ∙ ap (λ b. b || is_among n ys) (among_set n [] xs) ∙ sym (list_any-append (bytes_eq n) xs ys)
 
 pub free_from : (body : Body) (bound used : Texts)
-    → bound ≡ with_names (with_names [] (out-Body body).parameters) (flat_map (λ stmt. bound_of (uses_of stmt)) (out-Block (out-Body body).block).stmts)
-    → used ≡ flat_map (λ stmt. used_of (uses_of stmt)) (out-Block (out-Body body).block).stmts → first_uses bound used ≡ free_names body
+    → bound ≡ with_names (with_names [] (out-Body body).parameters) (bound_of (block_uses_of (out-Body body).block))
+    → used ≡ used_of (block_uses_of (out-Body body).block) → first_uses bound used ≡ free_names body
 free_from body bound used b u =
     let xs = (out-Body body).parameters in
-    let ys = flat_map (λ stmt. bound_of (uses_of stmt)) (out-Block (out-Body body).block).stmts in
+    let ys = bound_of (block_uses_of (out-Body body).block) in
     ap (λ names. first_uses names used) b ∙ ap (first_uses (with_names (with_names [] xs) ys)) u
-    ∙ same_uses (with_names (with_names [] xs) ys) (xs ++ ys) (flat_map (λ stmt. used_of (uses_of stmt)) (out-Block (out-Body body).block).stmts) (λ n. same_bound n xs ys)
+    ∙ same_uses (with_names (with_names [] xs) ys) (xs ++ ys) (used_of (block_uses_of (out-Body body).block)) (λ n. same_bound n xs ys)
     ∙ sym (free_of body)

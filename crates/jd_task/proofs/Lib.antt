@@ -1,7 +1,10 @@
 pub mod Among
+pub mod Bound
+pub mod Collected
 pub mod Free
 pub mod Fuel
 pub mod Passing
 pub mod Played
+pub mod Pushed
 pub mod Recursion
 pub mod Uses

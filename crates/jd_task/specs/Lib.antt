@@ -1,7 +1,10 @@
 pub mod Bound
 pub mod Course
 pub mod Direct
+pub mod Elements
 pub mod Executes
 pub mod Names
+pub mod Passes
 pub mod Places
+pub mod Pushing
 pub mod Running

@@ -63,7 +63,7 @@ fn left_by(
     ensures { (ran : Ran TheDoing TheReached) → Gives ran reached doing → IfOk result (λ left. left ≡ left_by ran) }
 {
     let (frames, turn) = match reached {
-        Ok(Reached::Went(value)) => (Items::new(alloc), Turn::Ended(Ok(value))),
+        Ok(Reached::Went(flow)) => (Items::new(alloc), Turn::Ended(Ok(flow.into_value()))),
         Ok(Reached::Asks(op, frames)) => (frames, Turn::Asks(op)),
         Err(Stop::Faulted(fault)) => (Items::new(alloc), Turn::Ended(Err(fault))),
         Err(Stop::OutOfMemory) => return Err(OutOfMemory),

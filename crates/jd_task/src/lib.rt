@@ -5,8 +5,14 @@
 //! so that copies take time in proportion to the lists of values alone. The crate stands on jd_value and jd_expr.
 #![tactic(auto)]
 
+mod attempt;
+mod branch;
 mod closure;
+mod collection;
+mod condition;
 mod doing;
+mod each;
+mod flow;
 mod frame;
 mod job;
 mod laws;
@@ -15,7 +21,10 @@ mod msg;
 mod names;
 mod op;
 mod place;
+mod push;
 mod reached;
+mod repeat;
+mod resume;
 mod running;
 mod statement;
 

@@ -35,7 +35,7 @@ pub enum Msg {
 }
 
 /// The same values once more.
-fn copy_values(alloc: Global, values: &[Value]) -> Result<Items<Value>, OutOfMemory>
+pub(crate) fn copy_values(alloc: Global, values: &[Value]) -> Result<Items<Value>, OutOfMemory>
     ensures { IfOk result (λ all. all ≡ values.now) }
 {
     let mut all = Items::new(alloc);

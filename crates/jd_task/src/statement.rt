@@ -1,10 +1,13 @@
 //! Statements with no statements inside, of which the unit is spent.
-ghost use Rattle.std.specs.Prelude.{◌≡◌, IfOk};
+ghost use Rattle.std.specs.Prelude.{◌≡◌, IfOk, MatchResult, Ok, Err};
+ghost use Rattle.jd_task.specs.declared.flow.Flow.TheVariants.{Next};
+ghost use Rattle.jd_task.specs.declared.reached.Reached.TheVariants.{Went};
 ghost use Rattle.jd_expr.specs.Action.{Gives};
 ghost use Rattle.jd_task.specs.Running as spec;
 
 use crate::closure::captured;
 use crate::doing::Doing;
+use crate::flow::Flow;
 use crate::frame::answer_in;
 use crate::op::Op;
 use crate::reached::{Reached, asks};
@@ -20,6 +23,19 @@ pub(crate) fn set(name: &Txt, value: &Value, doing: &mut Doing) -> Result<(), St
     Ok(())
 }
 
+/// A statement ends with this value, unless what was done with it stopped.
+pub(crate) fn next_or(value: Value, done: Result<(), Stop>) -> Result<Reached, Stop>
+    ensures { MatchResult done (λ _. result ≡ Ok (Went (Next value))) (λ stop. result ≡ Err stop) }
+{
+    match done {
+        Ok(()) => Ok(Reached::Went(Flow::Next(value))),
+        Err(stop) => {
+            drop(value);
+            Err(stop)
+        }
+    }
+}
+
 #[tactic(auto, unfolding(crate::specs::Running::assignment))]
 pub(crate) fn assign(
     alloc: Global,
@@ -30,8 +46,8 @@ pub(crate) fn assign(
     ensures { Gives (spec.assignment name.now x.now doing.old) result doing.new }
 {
     let value = eval(alloc, x, &doing.variables, &mut doing.left)?;
-    set(name, &value, doing)?;
-    Ok(Reached::Went(value))
+    let was_set = set(name, &value, doing);
+    next_or(value, was_set)
 }
 
 #[tactic(auto, unfolding(crate::specs::Running::expression))]
@@ -39,7 +55,7 @@ pub(crate) fn expression(alloc: Global, x: &Expr, doing: &mut Doing) -> Result<R
     ensures { Gives (spec.expression x.now doing.old) result doing.new }
 {
     let value = eval(alloc, x, &doing.variables, &mut doing.left)?;
-    Ok(Reached::Went(value))
+    Ok(Reached::Went(Flow::Next(value)))
 }
 
 /// The operation with the closure of its body.

@@ -22,6 +22,7 @@ fn arrival(is_worker: bool, from: u32, msg: Msg) -> Result<Arrival, StepFault>
     if is_worker {
         Ok(Arrival::Message { from, msg })
     } else {
+        drop(msg);
         Err(StepFault::Stranger)
     }
 }

@@ -11,6 +11,13 @@ fn letter(stmt: &Stmt) -> u8 {
         Stmt::Effect(_, Operation::RemoteCall, _, _) => b'r',
         Stmt::Effect(_, Operation::Fetch, _, _) => b'f',
         Stmt::Effect(_, Operation::Print, _, _) => b'p',
+        Stmt::If(_, _)
+        | Stmt::While(_)
+        | Stmt::For(_, _, _)
+        | Stmt::Try(_, _, _)
+        | Stmt::Break
+        | Stmt::Continue
+        | Stmt::Push(_, _) => b'n',
     }
 }
 

@@ -1,7 +1,7 @@
 //! What no contract says: that steps with enough memory succeed, and that messages may go to threads.
 use crate::building::{FUTURE, MAIN, name, program};
 use jd_task::{Closure, Evaluated, Frame, Job, Msg, Op, Place, Turn};
-use jd_value::{Outcome, Value};
+use jd_value::{Outcome, Shared, Value};
 use sqlite_items::Items;
 use std::alloc::Global;
 use std::test::Fail;
@@ -76,9 +76,13 @@ fn asked_sum(alloc: Global, turn: Turn) -> Result<Option<i64>, Fail> {
     }
 }
 
+fn future(alloc: Global) -> Result<Value, Fail> {
+    Ok(Value::Future(Shared::new(alloc, FUTURE)?))
+}
+
 fn is_future(turn: &Turn) -> bool {
     match turn {
-        Turn::Ended(Ok(Value::Future(future))) => *future == FUTURE,
+        Turn::Ended(Ok(Value::Future(future))) => *future.get() == FUTURE,
         _ => false,
     }
 }
@@ -96,7 +100,7 @@ fn a_task_asks_a_call_and_goes_on_with_its_answer(rt: HostRuntime) -> Result<(),
     let alloc = rt.alloc();
     let Evaluated { place, turn, .. } = asks_a_call(alloc)?;
     let sum = asked_sum(alloc, turn)?;
-    let ended = went_on(alloc, place, Ok(Value::Future(FUTURE)))?;
+    let ended = went_on(alloc, place, Ok(future(alloc)?))?;
     assert!(rt; sum == Some(9));
     assert!(rt; is_future(&ended.turn));
     drop(ended);
@@ -106,7 +110,12 @@ fn a_task_asks_a_call_and_goes_on_with_its_answer(rt: HostRuntime) -> Result<(),
 fn answers_x(frame: &Frame) -> bool {
     match frame {
         Frame::Answer(name) => name.get().as_bytes() == b"x".as_slice(),
-        Frame::Seq(_, _) => false,
+        Frame::Seq(_, _)
+        | Frame::Branch(_, _, _)
+        | Frame::Condition(_)
+        | Frame::Loop(_)
+        | Frame::Each(_, _, _, _)
+        | Frame::Catch(_, _) => false,
     }
 }
 
@@ -118,17 +127,5 @@ fn a_frame_is_copied(rt: HostRuntime) -> Result<(), Fail> {
     let copy = copy?;
     assert!(rt; answers_x(&copy));
     drop(copy);
-    Ok(())
-}
-
-fn may_go_to_threads<T: Send>(_value: &T) {}
-
-fn message_may_go(msg: &Msg) {
-    may_go_to_threads(msg);
-}
-
-#[test]
-fn messages_may_go_to_threads(_rt: HostRuntime) -> Result<(), Fail> {
-    message_may_go(&Msg::Begin { cell: FUTURE });
     Ok(())
 }

@@ -11,6 +11,8 @@ mod expressions;
 #[cfg(test)]
 mod layouts;
 #[cfg(test)]
+mod printed;
+#[cfg(test)]
 mod sources;
 #[cfg(test)]
 mod values;

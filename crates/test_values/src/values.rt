@@ -1,93 +1,107 @@
 //! What no contract says: that calls with enough memory succeed, and how large a value is.
-use crate::building::name;
+use crate::building::{exception, list, name, text_of, tuple};
 use jd_value::{
-    Ask, Block, Body, Fault, Operation, RefId, Shared, Txt, Value, copy_outcome, mentions,
-    print_fault, print_value,
+    Ask, Block, Body, Fault, Operation, RefId, Shared, Txt, Value, copy_outcome, depth,
+    print_value, push_references, words,
 };
 use sqlite_items::Items;
 use std::alloc::Global;
 use std::mem::size_of;
 use std::test::Fail;
 
-const FUTURE: RefId = RefId {
-    maker: 1,
-    number: 7,
-    owner: 2,
-};
-
 #[test]
-fn a_value_has_at_most_32_bytes(rt: HostRuntime) -> Result<(), Fail> {
-    assert!(rt; size_of::<Value>() <= 32);
+fn a_value_has_at_most_16_bytes(rt: HostRuntime) -> Result<(), Fail> {
+    assert!(rt; size_of::<Value>() <= 16);
     Ok(())
 }
 
-/// `tea:`
-fn text(alloc: Global) -> Result<Txt, Fail> {
-    let mut text = Txt::new(alloc);
-    text.push_bytes(b"tea")?;
-    text.push_byte(b':')?;
-    Ok(text)
+/// A future that process 2 stores.
+fn future(alloc: Global, number: u64) -> Result<Value, Fail> {
+    let reference = RefId {
+        maker: 1,
+        number,
+        owner: 2,
+    };
+    Ok(Value::Future(Shared::new(alloc, reference)?))
 }
 
-fn print_copy(alloc: Global, text: Txt, out: &mut Txt) -> Result<(), Fail> {
-    let value = Value::Text(Shared::new(alloc, text)?);
-    let copy = value.copy()?;
+/// A fault with a text of 9 bytes that came through a process.
+fn remote(alloc: Global) -> Result<Fault, Fail> {
+    let inner = Fault::Error(name(alloc, b"no answer")?);
+    Ok(Fault::Remote(2, Shared::new(alloc, inner)?))
+}
+
+/// `["twelve bytes", Future, nothing]`
+fn inner_list(alloc: Global) -> Result<Value, Fail> {
+    let mut items = Items::new(alloc);
+    items.push(text_of(alloc, b"twelve bytes")?)?;
+    items.push(future(alloc, 8)?)?;
+    items.push(Value::Nothing)?;
+    list(alloc, items)
+}
+
+/// A tuple of a future, a list and an exception.
+fn nested(alloc: Global) -> Result<Value, Fail> {
+    let mut items = Items::new(alloc);
+    items.push(future(alloc, 7)?)?;
+    items.push(inner_list(alloc)?)?;
+    items.push(exception(alloc, remote(alloc)?)?)?;
+    tuple(alloc, items)
+}
+
+/// A copy of the value, which is then let go.
+fn moved(value: Value) -> Result<Value, Fail> {
+    let copy = value.copy();
     drop(value);
-    print_value(&copy, out)?;
-    drop(copy);
-    Ok(())
+    Ok(copy?)
 }
 
-fn print_each(alloc: Global, out: &mut Txt) -> Result<(), Fail> {
-    print_copy(alloc, text(alloc)?, out)?;
-    print_value(&Value::Int(i64::MIN), out)?;
-    print_value(&Value::Nothing, out)?;
-    print_value(&Value::Future(FUTURE), out)?;
-    Ok(())
+/// The numbers of the references in the value.
+fn numbers(alloc: Global, value: &Value) -> Result<(u64, u64, usize), Fail> {
+    let mut all = Items::new(alloc);
+    push_references(value, &mut all)?;
+    match all.as_slice() {
+        [first, .., last] => Ok((first.number, last.number, all.len())),
+        _ => Err(Fail::from("references")),
+    }
 }
 
 #[test]
-fn values_are_copied_and_printed(rt: HostRuntime) -> Result<(), Fail> {
-    let alloc = rt.alloc();
-    let mut out = Txt::from_bytes(alloc, b"> ")?;
-    print_each(alloc, &mut out)?;
-    let copy = out.copy();
-    drop(out);
-    let copy = copy?;
-    assert!(rt; copy.as_bytes() == b"> tea:-9223372036854775808nothingFuture(2)".as_slice());
-    drop(copy);
-    assert!(rt; mentions(&Value::Future(FUTURE), FUTURE));
+fn the_size_and_the_references_of_a_nested_value(rt: HostRuntime) -> Result<(), Fail> {
+    let value = moved(nested(rt.alloc())?)?;
+    let size = (words(&value), depth(&value));
+    let references = numbers(rt.alloc(), &value);
+    drop(value);
+    assert!(rt; size == (13, 4));
+    assert!(rt; references? == (7, 8, 2));
     Ok(())
 }
 
-/// A fault that came through two processes.
-fn nested(alloc: Global) -> Result<Fault, Fail> {
-    let innermost = Shared::new(alloc, Fault::Undef(name(alloc, b"x")?))?;
-    let inner = Shared::new(alloc, Fault::Remote(3, innermost))?;
-    Ok(Fault::Remote(2, inner))
-}
-
-/// How the copy of a fault is printed.
+/// How the copy of a fault is printed, as the value that caught it.
 fn printed_copy(alloc: Global, fault: Fault) -> Result<Txt, Fail> {
     let outcome = Err(fault);
     let copy = copy_outcome(&outcome);
     drop(outcome);
-    let copy = copy?;
-    let mut out = Txt::new(alloc);
-    if let Err(fault) = &copy {
-        print_fault(fault, &mut out)?;
+    let mut out = Txt::from_bytes(alloc, b"> ")?;
+    if let Err(fault) = copy? {
+        let value = exception(alloc, fault)?;
+        let printed = print_value(&value, &mut out);
+        drop(value);
+        printed?;
     }
-    drop(copy);
     Ok(out)
 }
 
 #[test]
-fn faults_inside_faults_are_copied_and_printed(rt: HostRuntime) -> Result<(), Fail> {
+fn an_outcome_and_a_text_are_copied(rt: HostRuntime) -> Result<(), Fail> {
     let alloc = rt.alloc();
-    let line = printed_copy(alloc, nested(alloc)?)?;
-    let expected = b"RemoteException(2, RemoteException(3, UndefVarError(:x)))".as_slice();
-    assert!(rt; line.as_bytes() == expected);
-    drop(line);
+    let text = printed_copy(alloc, Fault::Remote(2, Shared::new(alloc, Fault::Deep)?))?;
+    let copy = text.copy();
+    drop(text);
+    let copy = copy?;
+    let expected = b"> RemoteException(2, StackOverflowError())".as_slice();
+    assert!(rt; copy.as_bytes() == expected);
+    drop(copy);
     Ok(())
 }
 

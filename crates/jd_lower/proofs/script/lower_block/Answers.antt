@@ -7,10 +7,10 @@ use Rattle.jd_lower.proofs.script.lower_block.Goals as goal
 
 pub returns-in-Ok : goal.returns-in-Ok
 returns-in-Ok c =
-    block_lowers c.args.texts.now c.args.names.now c.args.block.now c.args.draft.now c.lower_lines.new.draft c.lower_place.new.draft c.lower_place.result
-    (subst (λ ls. lines_on c.args.texts.now c.args.names.now (Some (tt, c.args.draft.now)) (map plain_line ls) ≡ Some (tt, c.lower_lines.new.draft)) c.as_slice.ensures c.in-Ok.ensures) c.lower_place.ensures
+    block_lowers c.args.scope.now c.args.block.now c.args.draft.now c.lower_lines.new.draft c.lower_place.new.draft c.lower_place.result
+    (subst (λ ls. lines_on c.args.scope.now (Some (tt, c.args.draft.now)) (map plain_line ls) ≡ Some (tt, c.lower_lines.new.draft)) c.as_slice.ensures c.in-Ok.ensures) c.lower_place.ensures
 
 pub returns-in-Err : goal.returns-in-Err
 returns-in-Err c =
-    block_fails c.args.texts.now c.args.names.now c.args.block.now c.args.draft.now c.lower_lines.new.draft c.in-Err.fault
-    (subst (λ ls. Gives (lines_on c.args.texts.now c.args.names.now (Some (tt, c.args.draft.now)) (map plain_line ls)) (Err c.in-Err.fault) c.lower_lines.new.draft) c.as_slice.ensures c.in-Err.ensures)
+    block_fails c.args.scope.now c.args.block.now c.args.draft.now c.lower_lines.new.draft c.in-Err.fault
+    (subst (λ ls. Gives (lines_on c.args.scope.now (Some (tt, c.args.draft.now)) (map plain_line ls)) (Err c.in-Err.fault) c.lower_lines.new.draft) c.as_slice.ensures c.in-Err.ensures)

@@ -8,7 +8,7 @@ use Rattle.jd_plain.proofs.tasks.Tasks.set_stage.Goals as goal
 
 pub returns-in-Running : goal.returns-in-Running
 returns-in-Running c =
-    let w : Task = record { home = c.in-Some.held.now.home; cell = c.in-Some.held.now.cell; life = Running c.in-Running.place c.args.stage } in
+    let w : Task = record { home = c.in-Some.held.now.home; cell = c.in-Some.held.now.cell; life = Running c.in-Running.place c.replace.new.dest } in
     by_task-write task_of (task_at c.args.stage) c.args.self.now.held (c.get_mut.follows.lender w) c.args.task c.in-Some.held.now w c.in-Some.ensures.value
     (c.get_mut.follows.holds w).3 (search rules)
 

@@ -1,0 +1,1 @@
+"""A second, slow evaluator of the script language, written from the manual and apart from jd."""
